@@ -1,0 +1,5 @@
+use Rattle.fault.proofs.Named.{numbers-tell}
+use Rattle.fault.proofs.numbers_tell.Needs as need
+
+pub returns : need.returns
+returns c = numbers-tell

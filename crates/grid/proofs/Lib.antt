@@ -1,0 +1,3 @@
+pub mod Extremes
+pub mod Edges
+pub mod Rules

@@ -1,0 +1,5 @@
+use Rattle.grid.proofs.Rules.{follow}
+use Rattle.grid.proofs.laws.keys_follow_the_rule.Needs as need
+
+pub returns : need.returns
+returns c = follow

@@ -1,0 +1,6 @@
+pub mod Limits
+pub mod Vectors
+pub mod Keys
+pub mod Parts
+pub mod KeyRule
+pub mod MarkedKeys

@@ -1,0 +1,6 @@
+mod Digits
+mod Signs
+mod Tabs
+mod Turns
+mod Cells
+mod Glue

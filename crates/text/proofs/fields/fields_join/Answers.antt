@@ -1,0 +1,5 @@
+use Rattle.text.proofs.Turns.{fields-join}
+use Rattle.text.proofs.fields.fields_join.Needs as need
+
+pub returns : need.returns
+returns c = fields-join

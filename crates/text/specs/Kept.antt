@@ -1,0 +1,8 @@
+-- What is kept of a line that has not ended.
+use mathlib.Core.List.{List}
+use Prim.Native.Nat.{ℕ}
+use lib.ListN.{take}
+use Rattle.text.specs.declared.lines.LineReader.{LineReader}
+
+abbrev pub kept : LineReader → List ℕ
+kept r = take (r .len) (r .bytes)

@@ -1,0 +1,75 @@
+// The fields of a line, parted by tabs.
+ghost use mathlib.Core.Path.{_≡_};
+ghost use Prim.Native.Nat.{ℕ, _<_};
+ghost use lib.ListN.{length};
+ghost use Rattle.std.specs.Orderings.{Decides};
+ghost use Rattle.text.specs.Fields.{fields, FirstField, Fields-join};
+ghost use Rattle.text.specs.Reading.{ReadFields};
+use crate::numbers::NumberFault;
+use crate::numbers::read_number;
+
+const MOST: u32 = 65_535;
+
+// Why fields are not the numbers that are read.
+#[derive(Clone, Copy)]
+pub enum FieldsFault {
+    // there are more or fewer than places
+    Count,
+    // the field of this index, from 0, is not one
+    At(NumberFault, usize),
+}
+
+// The field in front, and what follows its tab if it has one.
+pub fn first_field(line: &[u8]) -> (&[u8], Option<&[u8]>)
+    ensures { λ r. ⌜ FirstField (now (line .entry)) (now (r .0)) (r .1) ⌝ }
+{
+    for (i, b) in line.iter().enumerate() {
+        if *b == b'\t' {
+            return (&line[0..i], Some(&line[i + 1..]));
+        }
+    }
+    (line, None)
+}
+
+// Whether a line has this many fields.
+pub fn has_fields(line: &[u8], count: usize) -> bool
+    ensures { λ r. ⌜ Decides r (length (fields (now (line .entry))) ≡ count) ⌝ }
+{
+    let mut missing = count;
+    for b in line {
+        if *b == b'\t' {
+            if missing == 0 {
+                return false;
+            }
+            missing -= 1;
+        }
+    }
+    missing == 1
+}
+
+// The numbers up to 65,535 that the fields of a text spell, one to a place.
+pub fn read_numbers(text: &[u8], out: &mut [u16]) -> Result<(), FieldsFault>
+    ensures { λ r. ⌜ ReadFields (fields (now (text .entry))) (now (out .entry)) (now (out .exit)) r ⌝ }
+{
+    if !has_fields(text, out.len()) {
+        return Err(FieldsFault::Count);
+    }
+    let mut rest = Some(text);
+    for i in 0..out.len() {
+        let Some(some) = rest else {
+            return Err(FieldsFault::Count);
+        };
+        let (one, more) = first_field(some);
+        match read_number(one, MOST) {
+            Ok(n) => out[i] = n as u16,
+            Err(kind) => return Err(FieldsFault::At(kind, i)),
+        }
+        rest = more;
+    }
+    Ok(())
+}
+
+// The fields of every line, joined by tabs, are the line.
+pub fn fields_join()
+    ensures { λ _. ⌜ Fields-join ⌝ }
+{}
