@@ -27,6 +27,13 @@ on-edge High a b = b
 abbrev pub extreme : Edge → List ℕ → ℕ
 extreme e v = on-edge e (least v) (greatest v)
 
+-- the measure that makes a vector's key, and the first place that has it
+abbrev pub measure-of : ℤ → List ℕ → ℕ
+measure-of θ v = extreme (edge-of θ v) v
+
+abbrev pub place-of : ℤ → List ℕ → ℕ
+place-of θ v = first-place (measure-of θ v) v
+
 -- the key of a place and a measure, and both read back from it
 abbrev pub key-at : ℕ → ℕ → ℕ
 key-at p m = 65536 * p + m
@@ -39,7 +46,7 @@ key-measure k = k % 65536
 
 -- the key of a vector: its least measure on the low edge, its greatest on the high edge, at the first place that has it
 unfoldable pub key-of : ℤ → List ℕ → ℕ
-key-of θ v = key-at (first-place (extreme (edge-of θ v) v) v) (extreme (edge-of θ v) v)
+key-of θ v = key-at (place-of θ v) (measure-of θ v)
 
 -- what is checked of a vector, for d places
 abbrev pub vector-checks : ℕ → List ℕ → Checks

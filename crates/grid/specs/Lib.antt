@@ -4,3 +4,4 @@ pub mod Keys
 pub mod Parts
 pub mod KeyRule
 pub mod MarkedKeys
+pub mod Words

@@ -1,6 +1,7 @@
 // The edges of the grid, and the parts of a key.
 ghost use mathlib.Core.Path.{_≡_};
 ghost use Prim.Native.Nat.{_<_};
+ghost use Rattle.grid.specs.Words.{edge-word};
 
 // The edge that a vector's key goes by.
 #[derive(Clone, Copy, PartialEq, Eq, Debug)]
@@ -9,6 +10,18 @@ pub enum Edge {
     Low,
     // the key holds the greatest measure
     High,
+}
+
+impl Edge {
+    // The edge's name in an answer line.
+    pub fn word(self) -> &'static str
+        ensures { λ r. ⌜ now r ≡ edge-word self ⌝ }
+    {
+        match self {
+            Edge::Low => "low",
+            Edge::High => "high",
+        }
+    }
 }
 
 // A measure at one of at most 16 places, and the edge that it was taken for.

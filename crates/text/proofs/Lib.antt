@@ -1,6 +1,6 @@
 mod Digits
 mod Signs
 mod Tabs
-mod Turns
+pub mod Turns
 mod Cells
 mod Glue

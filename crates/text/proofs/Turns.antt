@@ -10,6 +10,7 @@ use borrow.Author.Tests.{eq-eqb, ne-eqb, eqb-true, eqb-false}
 use denote.Ref.{RefT}
 use Rattle.std.proofs.shelf.Lists.{take-more-set, take-all, map-push, take-at, getD-at, drop-more, drop-all, drop-drop, drop-set-lt}
 use Rattle.std.specs.shelf.Lists.{All}
+use Rattle.std.specs.Options.{isSome}
 use Rattle.std.specs.declared.option.Option.{Option}
 use Rattle.std.specs.declared.option.Option.the-variants.{None, Some}
 use Rattle.std.specs.declared.result.Result.the-variants.{Ok, Err}
@@ -38,8 +39,8 @@ pub record Reading (fs : List (List ℕ)) (o₀ o : List ℕ) (more : Option (Re
   pub parts : fs ≡ map spelled (take i o) ++ left more
   pub small : All (λ n. n ≤ 65535) (take i o)
 
-pub reading-start : (text : RefT (List ℕ)) (o : List ℕ) → Reading (fields (text .now)) o o (Some text) 0
-reading-start text o = record { kept = refl; parts = refl; small = tt }
+pub reading-start : (rest : Option (RefT (List ℕ))) (o : List ℕ) → Reading (left rest) o o rest 0
+reading-start rest o = record { kept = refl; parts = refl; small = tt }
 
 drop-both : (i : ℕ) (xs ys : List ℕ) → drop i xs ≡ drop i ys → drop (i + 1) xs ≡ drop (i + 1) ys
 drop-both i xs ys e = sym (drop-drop 1 i xs) ∙ ap (drop 1) e ∙ drop-drop 1 i ys
@@ -142,3 +143,20 @@ fits (b ∷ bs) = go (fits bs) (eqb b 9) refl
 
 pub fields-join : (line : List ℕ) → FieldsOf line (fields line)
 fields-join line = let r = some-fields line in record { some = omega (arith, ap length (r .2)); whole = fits line .0; apart = fits line .1 }
+
+-- a line has one field more than tabs at most
+pub length-fields : (l : List ℕ) → length (fields l) ≤ length l + 1
+length-fields [] = omega arith
+length-fields (b ∷ bs) =
+    let t : length (fields bs) ≤ length bs + 1 = length-fields bs in
+    elim (eqb b 9) as (λ v. length (cond v ([] ∷ fields bs) (onto b (fields bs))) ≤ length (b ∷ bs) + 1) [ true ↦ omega arith | false ↦ omega (arith, length-onto b bs) ]
+
+-- whether anything is left of a line
+
+pub left-some : (o : Option (RefT (List ℕ))) → isSome o ≡ true → 0 < length (left o)
+left-some None e = let z : _≡_ {A = ℕ} 0 1 = cc in absurd (omega arith)
+left-some (Some t) e = fields-join (t .now) .some
+
+pub left-none : (o : Option (RefT (List ℕ))) → isSome o ≡ false → left o ≡ []
+left-none None e = refl
+left-none (Some t) e = let z : _≡_ {A = ℕ} 0 1 = cc in absurd (omega arith)

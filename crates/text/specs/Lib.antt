@@ -3,3 +3,5 @@ pub mod Fields
 pub mod Reading
 pub mod Lines
 pub mod Kept
+pub mod Heads
+pub mod Openings

@@ -3,7 +3,7 @@ ghost use mathlib.Core.Path.{_≡_};
 ghost use Prim.Native.Nat.{ℕ, _<_};
 ghost use lib.ListN.{length};
 ghost use Rattle.std.specs.Orderings.{Decides};
-ghost use Rattle.text.specs.Fields.{fields, FirstField, Fields-join};
+ghost use Rattle.text.specs.Fields.{fields, left, FirstField, Fields-join};
 ghost use Rattle.text.specs.Reading.{ReadFields};
 use crate::numbers::NumberFault;
 use crate::numbers::read_number;
@@ -47,24 +47,34 @@ pub fn has_fields(line: &[u8], count: usize) -> bool
     missing == 1
 }
 
-// The numbers up to 65,535 that the fields of a text spell, one to a place.
-pub fn read_numbers(text: &[u8], out: &mut [u16]) -> Result<(), FieldsFault>
-    ensures { λ r. ⌜ ReadFields (fields (now (text .entry))) (now (out .entry)) (now (out .exit)) r ⌝ }
+// Whether a part of a line has this many fields. No part has none.
+fn fills(rest: Option<&[u8]>, count: usize) -> bool
+    ensures { λ r. ⌜ Decides r (length (left (rest .entry)) ≡ count) ⌝ }
 {
-    if !has_fields(text, out.len()) {
+    match rest {
+        Some(text) => has_fields(text, count),
+        None => count == 0,
+    }
+}
+
+// The numbers up to 65,535 that the fields of a part of a line spell, one to a place.
+pub fn read_numbers(rest: Option<&[u8]>, out: &mut [u16]) -> Result<(), FieldsFault>
+    ensures { λ r. ⌜ ReadFields (left (rest .entry)) (now (out .entry)) (now (out .exit)) r ⌝ }
+{
+    if !fills(rest, out.len()) {
         return Err(FieldsFault::Count);
     }
-    let mut rest = Some(text);
+    let mut after = rest;
     for i in 0..out.len() {
-        let Some(some) = rest else {
+        let Some(text) = after else {
             return Err(FieldsFault::Count);
         };
-        let (one, more) = first_field(some);
-        match read_number(one, MOST) {
+        let (field, more) = first_field(text);
+        match read_number(field, MOST) {
             Ok(n) => out[i] = n as u16,
             Err(kind) => return Err(FieldsFault::At(kind, i)),
         }
-        rest = more;
+        after = more;
     }
     Ok(())
 }

@@ -1,0 +1,6 @@
+// What a knob makes of vectors: the key of each, and how many stand on each edge of each place.
+pub mod answers;
+pub mod commands;
+pub mod session;
+pub mod study;
+pub mod tally;
