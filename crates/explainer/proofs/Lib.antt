@@ -1,2 +1,2 @@
-mod Counting
-mod Lines
+mod Writing
+mod Ending

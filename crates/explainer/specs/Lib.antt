@@ -1,4 +1,2 @@
-pub mod Tallies
-pub mod Commands
-pub mod Sessions
 pub mod Written
+pub mod Explaining

@@ -1,9 +1,12 @@
 -- The bytes of answer lines.
 use mathlib.Core.Bool.{Bool, true, false}
 use mathlib.Core.List.{List, [], _∷_, _++_}
-use Prim.Native.Nat.{ℕ}
+use Prim.Native.Nat.{ℕ, _+_}
 use lib.Chars.{codes}
+use lib.ListN.{take}
 use Rattle.std.specs.Written.{decimal}
+use Rattle.std.specs.declared.option.Option.{Option}
+use Rattle.std.specs.declared.option.Option.the-variants.{None, Some}
 use Rattle.std.specs.declared.result.Result.{Result}
 use Rattle.std.specs.declared.result.Result.the-variants.{Ok, Err}
 use Rattle.fault.specs.declared.LineFault.{LineFault}
@@ -13,9 +16,10 @@ use Rattle.fault.specs.Numbers.{layer-word, line-number, line-layer, line-field
 use Rattle.grid.specs.declared.parts.KeyParts.{KeyParts}
 use Rattle.grid.specs.Keys.{key-at}
 use Rattle.grid.specs.Words.{edge-word}
-use Rattle.explainer.specs.declared.session.Answer.{Answer}
-use Rattle.explainer.specs.declared.session.Answer.the-variants.{Opened, Explained}
-use Rattle.explainer.specs.declared.tally.Counts.{Counts}
+use Rattle.sessions.specs.declared.session.Answer.{Answer}
+use Rattle.sessions.specs.declared.session.Answer.the-variants.{Opened, Explained}
+use Rattle.sessions.specs.declared.tally.Counts.{Counts}
+use Rattle.sessions.specs.declared.study.Study.{Study}
 
 -- the letter that a session takes, opened or not
 abbrev pub taken-letter : Bool → List ℕ
@@ -54,3 +58,17 @@ answer-line n opened (Err e) = refused-line n (refused-letter opened e) e
 -- place, count on the low edge, count on the high edge
 abbrev pub counts-line : ℕ → Counts → List ℕ
 counts-line j c = decimal j ++ (codes "\t" ++ (decimal (c .low) ++ (codes "\t" ++ (decimal (c .high) ++ codes "\n"))))
+
+-- the lines of places from j on
+abbrev pub counts-lines : ℕ → List Counts → List ℕ
+counts-lines j [] = []
+counts-lines j (c ∷ cs) = counts-line j c ++ counts-lines (j + 1) cs
+
+-- a title, and a line for each place
+abbrev pub table-of : List Counts → List ℕ
+table-of cs = codes "place\tlow\thigh\n" ++ counts-lines 0 cs
+
+-- what is printed at the end of a session: nothing, or the table of its setting's places
+abbrev pub closing : Option Study → List ℕ
+closing None = []
+closing (Some s) = table-of (take (s .setting .places) (s .tally .counts))

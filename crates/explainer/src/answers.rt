@@ -6,12 +6,12 @@ ghost use lib.Chars.{codes};
 ghost use Rattle.std.specs.Results.{isOk};
 ghost use Rattle.std.specs.Written.{decimal};
 ghost use Rattle.std.specs.Of.String.{string-bytes};
-ghost use Rattle.explainer.specs.Written.{taken-letter, refused-letter, explained-line, refused-line, accepted-line, answer-line, counts-line};
-use crate::session::Answer;
-use crate::tally::Counts;
+ghost use Rattle.explainer.specs.Written.{taken-letter, refused-letter, explained-line, refused-line, accepted-line, answer-line, counts-line, table-of};
 use fault::LineFault;
 use fault::TextFault;
 use grid::parts::KeyParts;
+use sessions::session::Answer;
+use sessions::tally::Counts;
 use std::fmt;
 use std::fmt::Write;
 
@@ -81,10 +81,27 @@ pub fn write_answer(
 }
 
 // Writes how many vectors stand on the edges of a place.
-pub fn write_counts(to: &mut String, place: usize, counts: Counts) -> fmt::Result
+fn write_counts(to: &mut String, place: usize, counts: Counts) -> fmt::Result
     ensures { λ r. ⌜ (isOk r ≡ true → string-bytes (now (to .exit)) ≡ string-bytes (now (to .entry)) ++ counts-line place counts) ⌝ }
 {
     let low = counts.low;
     let high = counts.high;
     write!(to, "{place}\t{low}\t{high}\n")
+}
+
+fn write_title(to: &mut String) -> fmt::Result
+    ensures { λ r. ⌜ (isOk r ≡ true → string-bytes (now (to .exit)) ≡ string-bytes (now (to .entry)) ++ codes "place\tlow\thigh\n") ⌝ }
+{
+    to.write_str("place\tlow\thigh\n")
+}
+
+// Writes the counts of places, from place 0 on.
+pub fn write_table(to: &mut String, counts: &[Counts]) -> fmt::Result
+    ensures { λ r. ⌜ (isOk r ≡ true → string-bytes (now (to .exit)) ≡ string-bytes (now (to .entry)) ++ table-of (now (counts .entry))) ⌝ }
+{
+    write_title(to)?;
+    for (place, one) in counts.iter().enumerate() {
+        write_counts(to, place, *one)?;
+    }
+    Ok(())
 }

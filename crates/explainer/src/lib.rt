@@ -1,6 +1,3 @@
-// What a knob makes of vectors: the key of each, and how many stand on each edge of each place.
+// The explain program on values: lines in, answers and a table out.
 pub mod answers;
-pub mod commands;
-pub mod session;
-pub mod study;
-pub mod tally;
+pub mod explaining;

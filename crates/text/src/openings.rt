@@ -8,7 +8,9 @@ use crate::numbers::read_number;
 use fault::TextFault;
 
 const MOST: u32 = 65_535;
+
 const PLACES_FIELD: usize = 2;
+
 const KNOB_FIELD: usize = 3;
 
 fn read_places(field: &[u8]) -> Result<usize, TextFault>

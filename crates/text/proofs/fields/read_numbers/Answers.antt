@@ -16,17 +16,18 @@ returns-in-rest c =
 
 pub returns-in-Err : need.returns-in-Err
 returns-in-Err c =
-    let long = c .if-not-fills .ensures tt .0 refl in
-    ( long
-    , reading-fault (left (c .args .rest)) (c .args .out .now) (c .loop-i .out) (c .loop-i .i) (omega (arith, long)) (c .in-Some .text .now) (c .first-field .result .0 .now)
-        (c .loop-i .after) (ap left (c .in-Some .is)) (c .first-field .result .1) (c .first-field .ensures) (c .loop-i .inv) (omega arith) (c .in-Err .kind) (c .in-Err .ensures tt)
-    , c .loop-i .inv .kept )
+    let long = c .if-not-fills .ensures tt .0 refl in (
+      long,
+      reading-fault (left (c .args .rest)) (c .args .out .now) (c .loop-i .out) (c .loop-i .i) (omega (arith, long)) (c .in-Some .text .now) (c .first-field .result .0 .now)
+          (c .loop-i .after) (ap left (c .in-Some .is)) (c .first-field .result .1) (c .first-field .ensures) (c .loop-i .inv) (omega arith) (c .in-Err .kind) (c .in-Err .ensures tt),
+      c .loop-i .inv .kept,
+    )
 
 pub loop-i-again : need.loop-i-again
 loop-i-again c =
     let long = c .if-not-fills .ensures tt .0 refl in
     reading-more (left (c .args .rest)) (c .args .out .now) (c .loop-i .out) (c .loop-i .i) (omega (arith, long)) (c .in-Some .text .now) (c .first-field .result .0 .now)
-        (c .loop-i .after) (ap left (c .in-Some .is)) (c .first-field .result .1) (c .first-field .ensures) (c .loop-i .inv) (omega arith) (c .in-Ok .n) (c .in-Ok .ensures tt)
+    (c .loop-i .after) (ap left (c .in-Some .is)) (c .first-field .result .1) (c .first-field .ensures) (c .loop-i .inv) (omega arith) (c .in-Ok .n) (c .in-Ok .ensures tt)
 
 pub returns : need.returns
 returns c =

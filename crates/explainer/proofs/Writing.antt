@@ -1,0 +1,23 @@
+-- The lines of the table, one after another.
+use mathlib.Core.Path.{_≡_, refl, sym, ap, _∙_}
+use mathlib.Core.List.{List, [], _∷_, _++_, append-assoc, append-nil}
+use Prim.Native.Nat.{ℕ, suc, _+_, _<_}
+use native.Mathlib.Omega.{arith}
+use lib.ListN.{length, take, getD, length-take}
+use Rattle.std.proofs.shelf.Lists.{take-more}
+use Rattle.sessions.specs.declared.tally.Counts.{Counts}
+use Rattle.explainer.specs.Written.{counts-line, counts-lines}
+
+counts-push : (j : ℕ) (cs : List Counts) (c : Counts) → counts-lines j (cs ++ c ∷ []) ≡ counts-lines j cs ++ counts-line (j + length cs) c
+counts-push j [] c = let z : j ≡ j + 0 = omega arith in append-nil (counts-line j c) ∙ ap (λ k. counts-line k c) z
+counts-push j (x ∷ cs) c =
+    let z : j + 1 + length cs ≡ j + suc (length cs) = omega arith in
+    ap (λ v. counts-line j x ++ v) (counts-push (j + 1) cs c) ∙ sym (append-assoc (counts-line j x) (counts-lines (j + 1) cs) (counts-line (j + 1 + length cs) c))
+    ∙ ap (λ k. (counts-line j x ++ counts-lines (j + 1) cs) ++ counts-line k c) z
+
+pub counts-more : (start now next : List ℕ) (cs : List Counts) (i : ℕ) (d : Counts) → i < length cs → now ≡ start ++ counts-lines 0 (take i cs) → next ≡ now ++ counts-line i (getD cs i d)
+    → next ≡ start ++ counts-lines 0 (take (i + 1) cs)
+counts-more start now next cs i d l was more =
+    let n : 0 + length (take i cs) ≡ i = omega (arith, length-take i cs) in
+    more ∙ ap (λ v. v ++ counts-line i (getD cs i d)) was ∙ append-assoc start (counts-lines 0 (take i cs)) (counts-line i (getD cs i d))
+    ∙ ap (λ v. start ++ v) (ap (λ k. counts-lines 0 (take i cs) ++ counts-line k (getD cs i d)) (sym n) ∙ sym (counts-push 0 (take i cs) (getD cs i d)) ∙ ap (counts-lines 0) (sym (take-more cs i d l)))

@@ -1,0 +1,3 @@
+mod Counting
+mod Lines
+pub mod Answering

@@ -1,0 +1,4 @@
+pub mod Tallies
+pub mod Commands
+pub mod Sessions
+pub mod Histories
