@@ -74,7 +74,16 @@ BAD_OPENINGS = [
 ]
 
 
+# the vectors of the eight keys that are worked out in docs/RULES.md
+MARKED = [
+    (0, [6554, 39321]), (0, [39321, 58982]), (3276, [13107, 49151]), (3277, [13107, 49151]), (0, [9, 5, 5]),
+    (-65535, [65535, 65535]), (-65536, [65535, 65535]), (65535, [0, 0]),
+]
+
+
 def sessions(rng):
+    for theta, vector in MARKED:
+        yield b"D\t%d\t%d\n" % (len(vector), theta) + vector_line(vector)
     yield b"\n".join(BAD_OPENINGS)
     yield b""
     yield b"\n"

@@ -8,6 +8,7 @@ use text::feeding::feed;
 use text::lines::LineReader;
 
 const CHUNK: usize = 4096;
+
 const SEPARATOR: u8 = 12;
 
 // Ends a session, prints what it has written, and starts the next.

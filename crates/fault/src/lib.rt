@@ -6,7 +6,7 @@ ghost use Rattle.fault.specs.declared.SearchFault.the-variants.{Window, Order}
 ghost use Rattle.fault.specs.Numbers.{layer-word, order-number, window-number, text-number, text-field, search-number, search-layer, line-number, line-layer, line-field, Numbers-tell};
 
 // The part of the library that refuses.
-#[derive(Clone, Copy, PartialEq, Eq, Debug)]
+#[derive(Clone, Copy)]
 pub enum Layer {
     Text,
     Window,
@@ -27,7 +27,7 @@ impl Layer {
 }
 
 // Why an ordered index refuses a change.
-#[derive(Clone, Copy, PartialEq, Eq, Debug)]
+#[derive(Clone, Copy)]
 pub enum OrderFault {
     // it holds as many entries as it may
     Full,
@@ -50,7 +50,7 @@ impl OrderFault {
 }
 
 // Why the search index, or what it is made of, refuses a call.
-#[derive(Clone, Copy, PartialEq, Eq, Debug)]
+#[derive(Clone, Copy)]
 pub enum WindowFault {
     // the number of places is 0 or above 16
     Dimension,
@@ -94,7 +94,7 @@ impl WindowFault {
 }
 
 // Why a line is no command. A case with a number holds the field, counted from 1.
-#[derive(Clone, Copy, PartialEq, Eq, Debug)]
+#[derive(Clone, Copy)]
 pub enum TextFault {
     // above 255 bytes
     Line,
@@ -147,7 +147,7 @@ impl TextFault {
 }
 
 // Why a call of the search index is refused: by itself, or by the ordered index below.
-#[derive(Clone, Copy, PartialEq, Eq, Debug)]
+#[derive(Clone, Copy)]
 pub enum SearchFault {
     Window(WindowFault),
     Order(OrderFault),
@@ -174,7 +174,7 @@ impl SearchFault {
 }
 
 // Why a line is refused: as text, or by the call that it makes.
-#[derive(Clone, Copy, PartialEq, Eq, Debug)]
+#[derive(Clone, Copy)]
 pub enum LineFault {
     Text(TextFault),
     Call(SearchFault),
@@ -213,40 +213,40 @@ impl LineFault {
 pub impl From<WindowFault> for SearchFault as SearchFromWindow {
     ghost converts = { λ f r. r ≡ Window f };
 
-    fn from(fault: WindowFault) -> SearchFault {
-        SearchFault::Window(fault)
+    fn from(cause: WindowFault) -> SearchFault {
+        SearchFault::Window(cause)
     }
 }
 
 pub impl From<OrderFault> for SearchFault as SearchFromOrder {
     ghost converts = { λ f r. r ≡ Order f };
 
-    fn from(fault: OrderFault) -> SearchFault {
-        SearchFault::Order(fault)
+    fn from(cause: OrderFault) -> SearchFault {
+        SearchFault::Order(cause)
     }
 }
 
 pub impl From<TextFault> for LineFault as LineFromText {
     ghost converts = { λ f r. r ≡ Text f };
 
-    fn from(fault: TextFault) -> LineFault {
-        LineFault::Text(fault)
+    fn from(cause: TextFault) -> LineFault {
+        LineFault::Text(cause)
     }
 }
 
 pub impl From<SearchFault> for LineFault as LineFromSearch {
     ghost converts = { λ f r. r ≡ Call f };
 
-    fn from(fault: SearchFault) -> LineFault {
-        LineFault::Call(fault)
+    fn from(cause: SearchFault) -> LineFault {
+        LineFault::Call(cause)
     }
 }
 
 pub impl From<WindowFault> for LineFault as LineFromWindow {
     ghost converts = { λ f r. r ≡ Call (Window f) };
 
-    fn from(fault: WindowFault) -> LineFault {
-        LineFault::Call(SearchFault::Window(fault))
+    fn from(refusal: WindowFault) -> LineFault {
+        LineFault::Call(SearchFault::Window(refusal))
     }
 }
 

@@ -13,7 +13,7 @@ use Rattle.grid.specs.declared.parts.Edge.{Edge}
 use Rattle.grid.specs.declared.parts.Edge.the-variants.{Low, High}
 use Rattle.grid.specs.declared.parts.KeyParts.{KeyParts}
 use Rattle.grid.specs.Vectors.{least, greatest, first-place}
-use Rattle.grid.specs.Keys.{on-edge, edge-at, edge-of, extreme, key-at, key-of}
+use Rattle.grid.specs.Keys.{on-edge, edge-at, edge-of, extreme, measure-of, place-of, key-at, key-of}
 use Rattle.grid.specs.Parts.{PartsOf}
 
 -- the edge is low where the least measure and the knob come below what the greatest leaves of the grid
@@ -43,6 +43,10 @@ pub key-high : (θ : ℤ) (v : List ℕ) → edge-of θ v ≡ High → key-of θ
 unfolding key-of
 key-high θ v h = ap (λ e. key-at (first-place (extreme e v) v) (extreme e v)) h
 
+key-parts : (θ : ℤ) (v : List ℕ) → key-of θ v ≡ key-at (place-of θ v) (measure-of θ v)
+unfolding key-of
+key-parts θ v = refl
+
 -- the edge that is found from extremes that are found
 edge-found : (θ : ℤ) (v : List ℕ) (a b : ℕ) (e : Edge) → a ≡ least v → b ≡ greatest v → e ≡ edge-at θ a b → edge-of θ v ≡ e
 unfolding edge-of
@@ -54,16 +58,10 @@ pub parts-found : (θ : ℤ) (v : List ℕ) (p q : ℕ) (k : KeyParts) → getD 
 parts-found θ v p q k lp fp lq fq e at m =
     let h = edge-found θ v (getD v p 0) (getD v q 0) (k .edge) lp lq e in
     let f = found (k .edge) in
-    record {
-      edge = sym h;
-      measure = m ∙ ap (λ j. getD v j 0) at ∙ f .0 ∙ ap (λ e. extreme e v) (sym h);
-      place = at ∙ f .1 ∙ ap (λ e. first-place (extreme e v) v) (sym h);
-    }
+    let em : k .measure ≡ measure-of θ v = m ∙ ap (λ j. getD v j 0) at ∙ f .0 ∙ ap (λ e. extreme e v) (sym h) in
+    let ep : k .place ≡ place-of θ v = at ∙ f .1 ∙ ap (λ e. first-place (extreme e v) v) (sym h) in
+    record { edge = sym h; measure = em; place = ep; key = (λ i. key-at (ep i) (em i)) ∙ sym (key-parts θ v) }
   where
     found : (e : Edge) → (getD v (on-edge e p q) 0 ≡ extreme e v) × (on-edge e p q ≡ first-place (extreme e v) v)
     found Low = (lp, fp)
     found High = (lq, fq)
-
-pub parts-key : (θ : ℤ) (v : List ℕ) (p : KeyParts) → PartsOf θ v p → key-at (p .place) (p .measure) ≡ key-of θ v
-unfolding key-of
-parts-key θ v p h = λ i. key-at (h .place i) (h .measure i)

@@ -4,7 +4,7 @@ ghost use Prim.Native.Nat.{_<_};
 ghost use Rattle.grid.specs.Words.{edge-word};
 
 // The edge that a vector's key goes by.
-#[derive(Clone, Copy, PartialEq, Eq, Debug)]
+#[derive(Clone, Copy)]
 pub enum Edge {
     // the key holds the least measure
     Low,

@@ -4,6 +4,7 @@ ghost use mathlib.Core.Bool.{true};
 ghost use mathlib.Core.List.{List, [], _∷_, _++_};
 ghost use Prim.Native.Nat.{ℕ};
 ghost use lib.ListN.{take};
+ghost use Rattle.std.specs.Orderings.{Decides};
 ghost use Rattle.std.specs.Results.{isOk};
 ghost use Rattle.text.specs.Lines.{Split, fed, split, cut, Lines-join};
 ghost use Rattle.text.specs.Kept.{kept};
@@ -19,12 +20,18 @@ pub trait LineHandler {
         ensures { λ r. ⌜ (isOk r ≡ true → (ls : List (List ℕ)) → after (now (self .entry)) ls → after (now (self .exit)) (ls ++ now (line .entry) ∷ [])) ⌝ };
 }
 
+fn is_line_feed(b: u8) -> bool
+    ensures { λ r. ⌜ Decides r (b ≡ 10) ⌝ }
+{
+    b == b'\n'
+}
+
 // Takes in a byte, and hands on the line that it ends.
 fn feed_byte<H: LineHandler>(reader: &mut LineReader, to: &mut H, b: u8) -> fmt::Result
     ensures { λ r. ⌜ (isOk r ≡ true → (p : Split) → kept (now (reader .entry)) ≡ take 256 (p .rest) → H·LineHandler .after (now (to .entry)) (cut (p .lines))
         → (kept (now (reader .exit)) ≡ take 256 (fed p b .rest)) × H·LineHandler .after (now (to .exit)) (cut (fed p b .lines))) ⌝ }
 {
-    if b == b'\n' {
+    if is_line_feed(b) {
         to.handle(reader.line())?;
         reader.clear();
     } else {

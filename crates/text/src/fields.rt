@@ -19,12 +19,18 @@ pub enum FieldsFault {
     At(NumberFault, usize),
 }
 
+fn is_tab(b: u8) -> bool
+    ensures { λ r. ⌜ Decides r (b ≡ 9) ⌝ }
+{
+    b == b'\t'
+}
+
 // The field in front, and what follows its tab if it has one.
 pub fn first_field(line: &[u8]) -> (&[u8], Option<&[u8]>)
     ensures { λ r. ⌜ FirstField (now (line .entry)) (now (r .0)) (r .1) ⌝ }
 {
     for (i, b) in line.iter().enumerate() {
-        if *b == b'\t' {
+        if is_tab(*b) {
             return (&line[0..i], Some(&line[i + 1..]));
         }
     }
@@ -37,7 +43,7 @@ pub fn has_fields(line: &[u8], count: usize) -> bool
 {
     let mut missing = count;
     for b in line {
-        if *b == b'\t' {
+        if is_tab(*b) {
             if missing == 0 {
                 return false;
             }

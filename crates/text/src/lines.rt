@@ -1,10 +1,17 @@
 // A line as its bytes come in.
 ghost use mathlib.Core.Path.{_≡_};
 ghost use mathlib.Core.List.{[], _∷_, _++_};
-ghost use Prim.Native.Nat.{_≤_};
+ghost use Prim.Native.Nat.{_<_, _≤_};
 ghost use lib.ListN.{length, take};
+ghost use Rattle.std.specs.Orderings.{Decides};
 
 const KEPT: usize = 256;
+
+fn has_room(len: usize) -> bool
+    ensures { λ r. ⌜ Decides r (len < 256) ⌝ }
+{
+    len < KEPT
+}
 
 // The first 256 bytes of a line that has not ended: enough to tell that it is above 255 bytes.
 #[derive(Drop)]
@@ -30,7 +37,7 @@ impl LineReader {
         ensures { λ _. ⌜ take (now (self .exit) .len) (now (self .exit) .bytes) ≡ take 256 (take (now (self .entry) .len) (now (self .entry) .bytes) ++ b ∷ []) ⌝ }
     {
         let len = self.len;
-        if len < KEPT {
+        if has_room(len) {
             self.bytes[len] = b;
             self.len = len + 1;
         }

@@ -1,4 +1,6 @@
-use mathlib.Core.Path.{refl, sym, ap, _∙_}
+use mathlib.Core.Path.{_≡_, refl, sym, ap, _∙_}
+use mathlib.Core.Bool.{true, false}
+use Prim.Native.Nat.{ℕ}
 use native.Mathlib.Omega.{arith}
 use Rattle.text.specs.Lines.{cut}
 use Rattle.text.specs.Kept.{kept}
@@ -7,9 +9,10 @@ use Rattle.text.proofs.feeding.feed_byte.Needs as need
 
 pub returns-in-Continue-handle : need.returns-in-Continue-handle
 returns-in-Continue-handle g c = λ ok p is after.
-    feed-ends p (c .args .b) (g .H·LineHandler .after (c .handle .last .self)) (c .line .result .now) (kept (c .clear .last .self)) (omega arith)
+    feed-ends p (c .args .b) (g .H·LineHandler .after (c .handle .last .self)) (c .line .result .now) (kept (c .clear .last .self)) (c .if-is-line-feed .ensures tt .0 refl)
     (c .line .ensures ∙ is) (c .in-Continue-handle .ensures tt refl (cut (p .lines)) after) (c .clear .ensures)
 
-pub returns-else-b-eq10 : need.returns-else-b-eq10
-returns-else-b-eq10 g c = λ ok p is after.
-    feed-goes p (c .args .b) (g .H·LineHandler .after (c .args .to .now)) (kept (c .args .reader .now)) (kept (c .push .last .self)) (λ e. omega arith) is after (c .push .ensures)
+pub returns-else-is-line-feed : need.returns-else-is-line-feed
+returns-else-is-line-feed g c = λ ok p is after.
+    feed-goes p (c .args .b) (g .H·LineHandler .after (c .args .to .now)) (kept (c .args .reader .now)) (kept (c .push .last .self))
+    (λ e. let t : false ≡ true = c .if-is-line-feed .ensures tt .1 e in let z : _≡_ {A = ℕ} 0 1 = cc in omega arith) is after (c .push .ensures)

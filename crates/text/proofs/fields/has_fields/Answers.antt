@@ -1,24 +1,26 @@
-use mathlib.Core.Path.{_≡_}
+use mathlib.Core.Path.{_≡_, refl}
+use mathlib.Core.Bool.{true, false}
 use Prim.Native.Nat.{ℕ}
 use native.Mathlib.Omega.{arith}
 use borrow.Author.Tests.{eq-eqb, eqb-true}
 use Rattle.text.proofs.Turns.{count-tab, count-other, count-all}
 use Rattle.text.proofs.fields.has_fields.Needs as need
-use Rattle.text.proofs.fields.has_fields.Needs.{then-b-eq9·else-missing-eq0, else-b-eq9}
+use Rattle.text.proofs.fields.has_fields.Needs.{then-is-tab·else-missing-eq0, else-is-tab}
 
 pub returns-then-missing-eq0 : need.returns-then-missing-eq0
 returns-then-missing-eq0 c = (
   λ e. let z : _≡_ {A = ℕ} 0 1 = cc in absurd (omega arith),
-  λ h. absurd (omega (arith, c .loop-b .inv, count-tab (c .args .line .now) (c .loop-b .b-index) (omega arith) (omega arith))),
+  λ h. absurd (omega (arith, c .loop-b .inv, count-tab (c .args .line .now) (c .loop-b .b-index) (omega arith) (c .if-is-tab .ensures tt .0 refl))),
 )
 
 pub loop-b-again : need.loop-b-again
 loop-b-again c =
     let xs = c .args .line .now in
     let i = c .loop-b .b-index in
-    elim (c .if-b-eq9 .came) [
-      | then-b-eq9·else-missing-eq0 w ↦ omega (arith, w .missing-is, c .loop-b .inv, count-tab xs i (omega arith) (omega (arith, w .if-b-eq9 .taken)), w .if-missing-eq0 .left)
-      | else-b-eq9 w ↦ omega (arith, w .missing-is, c .loop-b .inv, count-other xs i (omega arith) (λ e. omega (arith, w .if-b-eq9 .left)))
+    elim (c .if-is-tab .came) [
+      | then-is-tab·else-missing-eq0 w ↦ omega (arith, w .missing-is, c .loop-b .inv, count-tab xs i (omega arith) (w .if-is-tab .ensures tt .0 refl), w .if-missing-eq0 .left)
+      | else-is-tab w ↦
+          omega (arith, w .missing-is, c .loop-b .inv, count-other xs i (omega arith) (λ e. let t : false ≡ true = w .if-is-tab .ensures tt .1 e in let z : _≡_ {A = ℕ} 0 1 = cc in omega arith))
     ]
 
 pub returns : need.returns
