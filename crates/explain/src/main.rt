@@ -1,11 +1,11 @@
 // Reads a setting and vectors as lines, and prints each vector's key, place and edge, and at the end a table of counts.
 use explainer::explaining::Explainer;
 use explainer::explaining::ExplainerHandler;
+use lines::feeding::feed;
+use lines::reader::LineReader;
 use std::error::AnyError;
 use std::io::Read;
 use std::io::Write;
-use text::feeding::feed;
-use text::lines::LineReader;
 
 const CHUNK: usize = 4096;
 

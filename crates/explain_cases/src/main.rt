@@ -1,11 +1,11 @@
 // Runs many sessions of the explain program, parted by form feeds, for the gate.
 use explainer::explaining::Explainer;
 use explainer::explaining::ExplainerHandler;
+use lines::feeding::feed;
+use lines::reader::LineReader;
 use std::error::AnyError;
 use std::io::Read;
 use std::io::Write;
-use text::feeding::feed;
-use text::lines::LineReader;
 
 const CHUNK: usize = 4096;
 

@@ -1,2 +1,3 @@
+-- The lemmas of `explainer`.
 mod Writing
 mod Ending

@@ -17,10 +17,10 @@ ghost use Rattle.explainer.specs.declared.explaining.Explainer.{Explainer};
 ghost use Rattle.explainer.specs.Written.{answer-line, closing};
 use crate::answers::write_answer;
 use crate::answers::write_table;
+use lines::feeding::LineHandler;
 use sessions::session::Session;
 use std::alloc::Global;
 use std::fmt;
-use text::feeding::LineHandler;
 
 const MOST_LINES: u32 = 1_000_000;
 
@@ -44,7 +44,8 @@ fn answer_line(session: &mut Session, number: u32, line: &[u8], output: &mut Str
 
 impl Explainer {
     pub fn new(heap: Global) -> Explainer
-        ensures { λ r. ⌜ Taken (r .session .study) (r .lines) [] ⌝ }
+        ensures takes { λ r. ⌜ Taken (r .session .study) (r .lines) [] ⌝ }
+        ensures clear { λ r. ⌜ string-bytes (r .output) ≡ [] ⌝ }
     {
         Explainer {
             session: Session::new(),

@@ -1,1 +1,2 @@
+-- The lemmas of `fault`.
 mod Named

@@ -1,3 +1,4 @@
+-- The lemmas of `grid`.
 pub mod Extremes
 pub mod Edges
 pub mod Rules

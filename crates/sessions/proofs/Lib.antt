@@ -1,3 +1,4 @@
+-- The lemmas of `sessions`.
 mod Counting
 mod Lines
 pub mod Answering

@@ -1,3 +1,4 @@
+-- The definitions that the contracts of `sessions` cite.
 pub mod Tallies
 pub mod Commands
 pub mod Sessions

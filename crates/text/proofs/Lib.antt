@@ -1,6 +1,5 @@
+-- The lemmas of `text`.
 mod Digits
 mod Signs
 mod Tabs
 pub mod Turns
-mod Cells
-mod Glue

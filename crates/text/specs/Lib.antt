@@ -1,7 +1,6 @@
+-- The definitions that the contracts of `text` cite.
 pub mod Spelling
 pub mod Fields
 pub mod Reading
-pub mod Lines
-pub mod Kept
 pub mod Heads
 pub mod Openings

@@ -1,7 +1,5 @@
-// Lines of text: cutting bytes into lines and lines into fields, and reading what the fields hold.
-pub mod feeding;
+// Fields of a line of text, and what they hold: numbers, a letter in front, a setting.
 pub mod fields;
 pub mod heads;
-pub mod lines;
 pub mod numbers;
 pub mod openings;

@@ -1,3 +1,4 @@
+-- What the loop of `main` keeps from turn to turn.
 use mathlib.Core.Path.{_≡_}
 use lib.ListN.{length}
 use Rattle.explain.proofs.main.Given as given

@@ -1,3 +1,4 @@
+-- The proof of `write_table`: what the search leaves open.
 use mathlib.Core.Path.{_≡_, refl, ap, _∙_}
 use mathlib.Core.List.{_++_, append-assoc}
 use native.Mathlib.Omega.{arith}

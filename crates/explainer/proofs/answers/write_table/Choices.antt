@@ -1,3 +1,4 @@
+-- What the loop of `write_table` keeps from turn to turn.
 use mathlib.Core.Path.{_≡_}
 use mathlib.Core.List.{_++_}
 use lib.ListN.{take}

@@ -1,3 +1,4 @@
+-- The proof of `greatest_place`: what the search leaves open.
 use native.Mathlib.Omega.{arith}
 use Rattle.grid.proofs.Extremes.{greatest-found}
 use Rattle.grid.proofs.keys.greatest_place.Needs as need

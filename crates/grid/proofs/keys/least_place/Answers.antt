@@ -1,3 +1,4 @@
+-- The proof of `least_place`: what the search leaves open.
 use native.Mathlib.Omega.{arith}
 use Rattle.grid.proofs.Extremes.{least-found}
 use Rattle.grid.proofs.keys.least_place.Needs as need

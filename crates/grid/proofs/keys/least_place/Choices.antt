@@ -1,3 +1,4 @@
+-- What the loop of `least_place` keeps from turn to turn.
 use Prim.Native.Nat.{ℕ, _<_, _≤_}
 use lib.ListN.{length, getD}
 use Rattle.grid.proofs.keys.least_place.Given as given

@@ -1,3 +1,4 @@
+-- The proof of `marked_keys`: what the search leaves open.
 use mathlib.Core.Path.{refl}
 use Rattle.grid.specs.Keys.{edge-of, key-of}
 use Rattle.grid.proofs.laws.marked_keys.Needs as need

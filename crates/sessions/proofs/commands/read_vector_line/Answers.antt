@@ -1,3 +1,4 @@
+-- The proof of `read_vector_line`: what the search leaves open.
 use mathlib.Core.Path.{ap}
 use native.Mathlib.Omega.{arith}
 use lib.ListN.{length}

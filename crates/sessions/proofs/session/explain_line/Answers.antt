@@ -1,3 +1,4 @@
+-- The proof of `explain_line`: what the search leaves open.
 use mathlib.Core.Path.{_≡_, refl, ap}
 use native.Mathlib.Omega.{arith}
 use lib.ListN.{length, length-take}

@@ -1,3 +1,4 @@
+-- The proof of `first_field`: what the search leaves open.
 use mathlib.Core.Path.{refl}
 use native.Mathlib.Omega.{arith}
 use Rattle.text.proofs.Tabs.{at-first-tab}

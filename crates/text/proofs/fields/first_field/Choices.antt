@@ -1,3 +1,4 @@
+-- What the loop of `first_field` keeps from turn to turn.
 use Prim.Native.Nat.{ℕ, _<_}
 use mathlib.Core.Path.{_≡_}
 use lib.ListN.{getD}

@@ -1,3 +1,4 @@
+-- The proof of `has_fields`: what the search leaves open.
 use mathlib.Core.Path.{_≡_, refl}
 use mathlib.Core.Bool.{true, false}
 use Prim.Native.Nat.{ℕ}

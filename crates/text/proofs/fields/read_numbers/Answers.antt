@@ -1,3 +1,4 @@
+-- The proof of `read_numbers`: what the search leaves open.
 use mathlib.Core.Path.{_≡_, refl, ap, subst}
 use native.Mathlib.Omega.{arith}
 use lib.ListN.{length}

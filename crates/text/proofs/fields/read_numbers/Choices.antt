@@ -1,3 +1,4 @@
+-- What the loop of `read_numbers` keeps from turn to turn.
 use Rattle.text.specs.Fields.{left}
 use Rattle.text.proofs.Turns.{Reading}
 use Rattle.text.proofs.fields.read_numbers.Given as given

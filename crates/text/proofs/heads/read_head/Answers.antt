@@ -1,3 +1,4 @@
+-- The proof of `read_head`: what the search leaves open.
 use mathlib.Core.Path.{_≡_, sym, ap, _∙_}
 use mathlib.Core.List.{_∷_, []}
 use native.Mathlib.Omega.{arith}

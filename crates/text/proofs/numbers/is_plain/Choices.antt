@@ -1,3 +1,4 @@
+-- What the loop of `is_plain` keeps from turn to turn.
 use Prim.Native.Nat.{ℕ, _<_, _≤_}
 use lib.ListN.{getD}
 use Rattle.text.proofs.numbers.is_plain.Given as given

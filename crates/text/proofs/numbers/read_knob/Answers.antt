@@ -1,3 +1,4 @@
+-- The proof of `read_knob`: what the search leaves open.
 use mathlib.Core.Path.{_≡_, refl, sym, ap, subst, _∙_}
 use mathlib.Core.Bool.{true, false}
 use mathlib.Core.List.{List, _∷_}

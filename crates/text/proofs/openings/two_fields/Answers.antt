@@ -1,3 +1,4 @@
+-- The proof of `two_fields`: what the search leaves open.
 use mathlib.Core.Path.{_≡_, sym, ap, _∙_}
 use mathlib.Core.List.{List, _∷_}
 use Prim.Native.Nat.{ℕ}

@@ -1,3 +1,4 @@
+-- The proof of `finish`: what the search leaves open.
 use mathlib.Core.Path.{_≡_, refl, ap, _∙_}
 use mathlib.Core.List.{_++_}
 use Prim.Native.Nat.{ℕ, _-_}

@@ -1,3 +1,4 @@
+-- The proof of `handle`: what the search leaves open.
 use mathlib.Core.Path.{refl}
 use native.Mathlib.Omega.{arith}
 use Rattle.sessions.proofs.Answering.{taken-past, taken-more}

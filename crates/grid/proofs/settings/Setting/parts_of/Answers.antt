@@ -1,3 +1,4 @@
+-- The proof of `parts_of`: what the search leaves open.
 use mathlib.Core.Path.{refl}
 use Rattle.grid.proofs.Edges.{parts-found}
 use Rattle.grid.proofs.settings.Setting.parts_of.Needs as need

@@ -1,3 +1,4 @@
+-- The proof of `answer`: what the search leaves open.
 use mathlib.Core.Path.{refl}
 use Rattle.sessions.proofs.session.Session.answer.Needs as need
 

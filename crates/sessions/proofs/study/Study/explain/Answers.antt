@@ -1,3 +1,4 @@
+-- The proof of `explain`: what the search leaves open.
 use mathlib.Core.Path.{refl}
 use Rattle.sessions.proofs.Counting.{tallied-more}
 use Rattle.sessions.proofs.study.Study.explain.Needs as need

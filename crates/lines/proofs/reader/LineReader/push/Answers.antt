@@ -1,11 +1,12 @@
+-- The proof of `push`: what the search leaves open.
 use mathlib.Core.Path.{_≡_, refl}
 use mathlib.Core.Bool.{true, false}
 use mathlib.Core.Logic.{_⊎_, ⊎-elim}
 use Prim.Native.Nat.{ℕ, _<_, _≤_}
 use native.Mathlib.Omega.{arith}
 use Rattle.std.proofs.shelf.Tests.{cases-lt}
-use Rattle.text.proofs.Cells.{kept-more, kept-past}
-use Rattle.text.proofs.lines.LineReader.push.Needs as need
+use Rattle.lines.proofs.Cells.{kept-more, kept-past}
+use Rattle.lines.proofs.reader.LineReader.push.Needs as need
 
 pub returns-then-has-room : need.returns-then-has-room
 returns-then-has-room c = kept-more (c .args .self .now .bytes) (c .args .self .now .len) (c .args .b) (c .args .self .now .long) (c .if-has-room .ensures tt .0 refl)

@@ -12,7 +12,7 @@ use Rattle.std.proofs.shelf.Tests.{cases-lt}
 use Rattle.std.proofs.shelf.Sums.{folded-push}
 use mathlib.Core.Logic.{⊎-elim}
 use borrow.Author.Tests.{eq-eqb, ne-eqb}
-use Rattle.text.specs.Lines.{Split, fed, blank, split, cut}
+use Rattle.lines.specs.Lines.{Split, fed, blank, split, cut}
 
 -- a byte that is kept
 pub kept-more : (cells : List ℕ) (len b : ℕ) → length cells ≡ 256 → len < 256 → take (len + 1) (set cells len b) ≡ take 256 (take len cells ++ b ∷ [])

@@ -6,9 +6,9 @@ ghost use Prim.Native.Nat.{ℕ};
 ghost use lib.ListN.{take};
 ghost use Rattle.std.specs.Orderings.{Decides};
 ghost use Rattle.std.specs.Results.{isOk};
-ghost use Rattle.text.specs.Lines.{Split, fed, split, cut, Lines-join};
-ghost use Rattle.text.specs.Kept.{kept};
-use crate::lines::LineReader;
+ghost use Rattle.lines.specs.Lines.{Split, fed, split, cut, Lines-join};
+ghost use Rattle.lines.specs.Kept.{kept};
+use crate::reader::LineReader;
 use std::fmt;
 
 // What lines are handed to. It fails only for want of memory.

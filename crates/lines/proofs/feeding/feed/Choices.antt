@@ -1,10 +1,11 @@
+-- What the loop of `feed` keeps from turn to turn.
 use mathlib.Core.Path.{_≡_}
 use mathlib.Core.List.{List, _++_}
 use Prim.Native.Nat.{ℕ}
 use lib.ListN.{take}
-use Rattle.text.specs.Lines.{split, cut}
-use Rattle.text.specs.Kept.{kept}
-use Rattle.text.proofs.feeding.feed.Given as given
+use Rattle.lines.specs.Lines.{split, cut}
+use Rattle.lines.specs.Kept.{kept}
+use Rattle.lines.proofs.feeding.feed.Given as given
 
 abbrev pub Inv-loop-b : given.InvT-loop-b
 Inv-loop-b g l =

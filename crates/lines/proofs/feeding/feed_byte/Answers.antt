@@ -1,11 +1,12 @@
+-- The proof of `feed_byte`: what the search leaves open.
 use mathlib.Core.Path.{_≡_, refl, sym, ap, _∙_}
 use mathlib.Core.Bool.{true, false}
 use Prim.Native.Nat.{ℕ}
 use native.Mathlib.Omega.{arith}
-use Rattle.text.specs.Lines.{cut}
-use Rattle.text.specs.Kept.{kept}
-use Rattle.text.proofs.Cells.{feed-ends, feed-goes}
-use Rattle.text.proofs.feeding.feed_byte.Needs as need
+use Rattle.lines.specs.Lines.{cut}
+use Rattle.lines.specs.Kept.{kept}
+use Rattle.lines.proofs.Cells.{feed-ends, feed-goes}
+use Rattle.lines.proofs.feeding.feed_byte.Needs as need
 
 pub returns-in-Continue-handle : need.returns-in-Continue-handle
 returns-in-Continue-handle g c = λ ok p is after.

@@ -8,7 +8,7 @@ use lib.Dec.{eqb}
 use borrow.Author.Tests.{eqb-true, eqb-false}
 use Rattle.std.specs.shelf.Lists.{All}
 use Rattle.std.specs.Iters.{folded}
-use Rattle.text.specs.Lines.{Split, fed, blank, split, glued, Feedless, LinesOf, Lines-join}
+use Rattle.lines.specs.Lines.{Split, fed, blank, split, glued, Feedless, LinesOf, Lines-join}
 
 glued-push : (ls : List (List ℕ)) (l : List ℕ) → glued (ls ++ l ∷ []) ≡ glued ls ++ (l ++ 10 ∷ [])
 glued-push [] l = refl

@@ -1,13 +1,14 @@
+-- The proof of `feed`: what the search leaves open.
 use mathlib.Core.Path.{_≡_, refl, sym, subst}
 use mathlib.Core.List.{List, _++_, append-nil}
 use Prim.Native.Nat.{ℕ}
 use native.Mathlib.Omega.{arith}
 use lib.ListN.{take}
 use Rattle.std.proofs.shelf.Lists.{take-all}
-use Rattle.text.specs.Lines.{Split, split, cut}
-use Rattle.text.specs.Kept.{kept}
-use Rattle.text.proofs.Cells.{split-more}
-use Rattle.text.proofs.feeding.feed.Needs as need
+use Rattle.lines.specs.Lines.{Split, split, cut}
+use Rattle.lines.specs.Kept.{kept}
+use Rattle.lines.proofs.Cells.{split-more}
+use Rattle.lines.proofs.feeding.feed.Needs as need
 
 pub loop-b-holds : need.loop-b-holds
 loop-b-holds g c = λ h is after.

@@ -2,7 +2,7 @@
 use mathlib.Core.List.{List}
 use Prim.Native.Nat.{ℕ}
 use lib.ListN.{take}
-use Rattle.text.specs.declared.lines.LineReader.{LineReader}
+use Rattle.lines.specs.declared.reader.LineReader.{LineReader}
 
 abbrev pub kept : LineReader → List ℕ
 kept r = take (r .len) (r .bytes)

@@ -1,0 +1,3 @@
+-- The lemmas of `lines`.
+mod Cells
+mod Glue
