@@ -5,9 +5,7 @@ use Prim.Native.Nat.{ℕ}
 use lib.Dec.{eqb}
 use Rattle.fault.specs.declared.Layer.{Layer}
 use Rattle.fault.specs.declared.Layer.the-variants.{Text as text, Window as window, Order as order}
-use Rattle.fault.specs.declared.OrderFault.{OrderFault}
 use Rattle.fault.specs.declared.OrderFault.the-variants.{Full, Present, Missing}
-use Rattle.fault.specs.declared.WindowFault.{WindowFault}
 use Rattle.fault.specs.declared.WindowFault.the-variants.{Dimension, Knob, Width, Slot, Taken, Absent, Crossed, Stray, Short, Count}
 use Rattle.fault.specs.declared.TextFault.{TextFault}
 use Rattle.fault.specs.declared.TextFault.the-variants.{Line, Letter, Fields, Digits, Size, Dimension as DimensionSize, Knob as KnobSize, Count as CountSize}

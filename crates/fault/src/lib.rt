@@ -1,6 +1,5 @@
 // Refusals: why a call or a line was refused, by layer, with the number of each.
 ghost use mathlib.Core.Path.{_≡_};
-ghost use lib.Chars.{codes};
 ghost use Rattle.fault.specs.declared.LineFault.the-variants.{Text, Call};
 ghost use Rattle.fault.specs.declared.SearchFault.the-variants.{Window, Order};
 ghost use Rattle.fault.specs.Numbers.{layer-word, order-number, window-number, text-number, text-field, search-number, search-layer, line-number, line-layer, line-field, Numbers-tell};

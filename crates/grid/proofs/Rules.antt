@@ -1,15 +1,14 @@
 -- The key of a vector is the one number that the rule gives, and it tells its place and its measure.
-use mathlib.Core.Path.{_≡_, refl, sym, ap, subst, _∙_}
+use mathlib.Core.Path.{_≡_, sym, ap, subst, _∙_}
 use mathlib.Core.List.{List}
 use mathlib.Core.Logic.{_⊎_, inl, inr, ⊎-elim}
-use Prim.Native.Nat.{ℕ, _+_, _*_, _/_, _%_, _^_, _<_, _≤_}
+use Prim.Native.Nat.{ℕ, _/_, _%_, _<_, _≤_}
 use native.Mathlib.Omega.{arith}
-use lib.IntN.{ℤ, pos, _+ℤ_, _-ℤ_}
-use lib.Signed.{_<ℤ_, _≤ℤ_}
+use lib.IntN.{ℤ}
 use lib.ListN.{length, getD}
 use Rattle.std.proofs.shelf.Signed.{ints}
-use Rattle.grid.specs.Vectors.{least, greatest, first-place, OnGrid}
-use Rattle.grid.specs.Keys.{edge-of, key-at, key-of}
+use Rattle.grid.specs.Vectors.{least, greatest, first-place}
+use Rattle.grid.specs.Keys.{key-at, key-of}
 use Rattle.grid.specs.KeyRule.{FirstPlace, Extremes, EdgeKey, HasKey, Keys-follow-the-rule, KeyTells, Keys-tell}
 use Rattle.grid.proofs.Extremes.{least-le, le-least, least-has, greatest-ge, greatest-le, greatest-has, place-is, place-first}
 use Rattle.grid.proofs.Edges.{edge-cases, low-edge, high-edge, key-low, key-high}

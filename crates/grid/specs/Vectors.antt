@@ -1,6 +1,5 @@
 -- Vectors as lists of measures: the least and the greatest measure, and the first place of a measure.
 use mathlib.Core.List.{List, [], _∷_}
-use mathlib.Core.Path.{_≡_}
 use mathlib.Core.Bool.{cond}
 use Prim.Native.Nat.{ℕ, suc, _<_, _≤_, min, max}
 use lib.Dec.{eqb}

@@ -1,6 +1,6 @@
 // The key of a vector under a setting.
 ghost use mathlib.Core.Path.{_≡_};
-ghost use Prim.Native.Nat.{ℕ, _<_, _≤_};
+ghost use Prim.Native.Nat.{_<_};
 ghost use lib.ListN.{length, getD};
 ghost use Rattle.fault.specs.Checks.{Answers};
 ghost use Rattle.fault.specs.Numbers.{window-number};

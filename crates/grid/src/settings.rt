@@ -1,6 +1,6 @@
 // Settings: how many places a vector has, and the knob.
 ghost use mathlib.Core.Path.{_≡_};
-ghost use Prim.Native.Nat.{ℕ, _<_, _≤_};
+ghost use Prim.Native.Nat.{_<_};
 ghost use Rattle.fault.specs.Checks.{Answers};
 ghost use Rattle.fault.specs.Numbers.{window-number};
 ghost use Rattle.grid.specs.Limits.{InDimension, InKnob, setting-checks};

@@ -1,11 +1,10 @@
 -- The cells of a line as its bytes come in, and the lines of an input byte by byte.
-use mathlib.Core.Path.{_≡_, refl, sym, ap, subst, _∙_}
-use mathlib.Core.List.{List, [], _∷_, _++_, map, append-assoc}
-use mathlib.Core.Bool.{cond, true, false}
-use Prim.Native.Nat.{ℕ, _+_, _≤_, _<_, min}
+use mathlib.Core.Path.{_≡_, sym, ap, subst, _∙_}
+use mathlib.Core.List.{List, [], _∷_, _++_, append-assoc}
+use mathlib.Core.Bool.{cond}
+use Prim.Native.Nat.{ℕ, _+_, _≤_, _<_}
 use native.Mathlib.Omega.{arith}
-use lib.Dec.{eqb}
-use lib.ListN.{length, take, drop, getD, set, length-append, length-take}
+use lib.ListN.{length, take, getD, set, length-take}
 use lib.Seq.{take-append-le}
 use Rattle.std.proofs.shelf.Lists.{take-more-set, take-more, take-all, length-push, map-push}
 use Rattle.std.proofs.shelf.Tests.{cases-lt}

@@ -1,14 +1,13 @@
 -- The lines of an input put together again.
 use mathlib.Core.Path.{_≡_, refl, sym, ap, subst, _∙_}
 use mathlib.Core.List.{List, [], _∷_, _++_, append-assoc, append-nil}
-use mathlib.Core.Logic.{_⊎_, inl, inr, ⊎-elim}
 use mathlib.Core.Bool.{Bool, cond, true, false}
 use Prim.Native.Nat.{ℕ}
 use lib.Dec.{eqb}
 use borrow.Author.Tests.{eqb-true, eqb-false}
 use Rattle.std.specs.shelf.Lists.{All}
 use Rattle.std.specs.Iters.{folded}
-use Rattle.lines.specs.Lines.{Split, fed, blank, split, glued, Feedless, LinesOf, Lines-join}
+use Rattle.lines.specs.Lines.{Split, fed, blank, glued, Feedless, LinesOf, Lines-join}
 
 glued-push : (ls : List (List ℕ)) (l : List ℕ) → glued (ls ++ l ∷ []) ≡ glued ls ++ (l ++ 10 ∷ [])
 glued-push [] l = refl

@@ -1,8 +1,8 @@
 -- One more line of a session; and the counts of a session are those of its answers.
 use mathlib.Core.Path.{_≡_, refl, sym, ap, subst, _∙_}
-use mathlib.Core.Bool.{Bool, true, false, cond, _&&_}
+use mathlib.Core.Bool.{false, cond, _&&_}
 use mathlib.Core.List.{List, [], _∷_, _++_, append-assoc, append-nil}
-use Prim.Native.Nat.{ℕ, zero, suc, _+_, _-_, _^_, _<_, _≤_, min}
+use Prim.Native.Nat.{ℕ, suc, _+_, _-_, _^_, _<_, _≤_}
 use native.Mathlib.Omega.{arith}
 use lib.Dec.{eqb}
 use lib.IntN.{ℤ}
@@ -20,7 +20,7 @@ use Rattle.grid.specs.Parts.{PartsOf}
 use Rattle.sessions.specs.declared.study.Study.{Study}
 use Rattle.sessions.specs.declared.session.Answer.{Answer}
 use Rattle.sessions.specs.declared.session.Answer.the-variants.{Opened, Explained}
-use Rattle.sessions.specs.Tallies.{same-edge, stands-at, standing, count-at, Tallied}
+use Rattle.sessions.specs.Tallies.{same-edge, stands-at, standing, Tallied}
 use Rattle.sessions.specs.Sessions.{Answered, Fresh, Gains}
 use Rattle.sessions.specs.Histories.{Ran, names, naming, Counts-answers, Taken, Ended}
 use Rattle.sessions.proofs.Counting.{standing-push}

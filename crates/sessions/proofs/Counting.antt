@@ -1,8 +1,8 @@
 -- One more vector is one more on its own edge of its own place.
-use mathlib.Core.Path.{_≡_, refl, sym, ap, subst, _∙_}
+use mathlib.Core.Path.{_≡_, sym, ap, _∙_}
 use mathlib.Core.Bool.{Bool, true, false, cond, _&&_}
 use mathlib.Core.List.{List, [], _∷_, _++_}
-use Prim.Native.Nat.{ℕ, _+_, _-_, _^_, _<_, _≤_, min}
+use Prim.Native.Nat.{ℕ, _+_, _-_, _^_, _<_, _≤_}
 use native.Mathlib.Omega.{arith}
 use lib.Dec.{eqb}
 use lib.IntN.{ℤ}
@@ -10,7 +10,6 @@ use lib.ListN.{length}
 use borrow.Author.Tests.{eq-eqb}
 use Rattle.grid.specs.declared.parts.Edge.{Edge}
 use Rattle.grid.specs.declared.parts.KeyParts.{KeyParts}
-use Rattle.grid.specs.Keys.{edge-of, place-of}
 use Rattle.grid.specs.Parts.{PartsOf}
 use Rattle.sessions.specs.declared.tally.Counts.{Counts}
 use Rattle.sessions.specs.Tallies.{same-edge, stands-at, standing, count-at, Tallied, raised, explained}

@@ -18,7 +18,7 @@ use Rattle.text.specs.Heads.{HeadOf}
 use Rattle.text.specs.Openings.{ReadOpening}
 use Rattle.text.specs.Reading.{Spells, Faulty, ReadFields}
 
--- the line is too long, or does not begin with the letter b
+-- the line is too long, or does not begin with the letter b; 68 is D, 86 is V
 abbrev pub HeadFault : List ℕ → ℕ → TextFault → Type 0
 HeadFault line b e = ((e ≡ Line) × (255 < length line)) ⊎ ((e ≡ Letter) × (length line ≤ 255) × ((fs : List (List ℕ)) → fields line ≡ (b ∷ []) ∷ fs → ⊥))
 

@@ -1,6 +1,6 @@
 -- A whole session: the answers to its lines, and what the counts at its end say of them.
 use mathlib.Core.Path.{_≡_}
-use mathlib.Core.Bool.{Bool, true, false, cond, _&&_}
+use mathlib.Core.Bool.{Bool, false, cond, _&&_}
 use mathlib.Core.List.{List, [], _∷_, _++_}
 use Prim.Native.Nat.{ℕ, _+_, _<_, min}
 use lib.Dec.{eqb}
@@ -12,7 +12,6 @@ use Rattle.std.specs.declared.result.Result.the-variants.{Ok, Err}
 use Rattle.fault.specs.declared.LineFault.{LineFault}
 use Rattle.grid.specs.declared.parts.Edge.{Edge}
 use Rattle.sessions.specs.declared.study.Study.{Study}
-use Rattle.sessions.specs.declared.tally.Counts.{Counts}
 use Rattle.sessions.specs.declared.session.Answer.{Answer}
 use Rattle.sessions.specs.declared.session.Answer.the-variants.{Opened, Explained}
 use Rattle.sessions.specs.Tallies.{same-edge, count-at}

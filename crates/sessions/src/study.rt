@@ -1,8 +1,10 @@
 // A setting, and the vectors that were explained under it.
 ghost use mathlib.Core.Path.{_≡_};
+ghost use mathlib.Core.Bool.{false};
 ghost use mathlib.Core.List.{List, []};
 ghost use Prim.Native.Nat.{ℕ, _-_, _^_, _<_};
 ghost use lib.ListN.{length};
+ghost use Rattle.std.specs.Results.{isOk};
 ghost use Rattle.fault.specs.Checks.{Answers};
 ghost use Rattle.fault.specs.Numbers.{window-number};
 ghost use Rattle.grid.specs.Keys.{vector-checks};
@@ -42,6 +44,7 @@ impl Study {
     pub fn explain(&mut self, vector: &[u16]) -> Result<KeyParts, WindowFault>
         ensures answers { λ r. ⌜ Answers window-number (vector-checks (now (self .entry) .setting .places) (now (vector .entry))) (λ p. PartsOf (now (self .entry) .setting .theta) (now (vector .entry)) p) r ⌝ }
         ensures keeps { λ _. ⌜ now (self .exit) .setting ≡ now (self .entry) .setting ⌝ }
+        ensures stays { λ r. ⌜ (isOk r ≡ false → now (self .exit) ≡ now (self .entry)) ⌝ }
         ensures tallies { λ _. ⌜ ((vs : List (List ℕ)) → length vs < 2 ^ 64 - 1 → Tallied (now (self .entry) .setting .theta) vs (now (self .entry) .tally .counts)
             → Tallied (now (self .entry) .setting .theta) (explained (now (self .entry) .setting .places) vs (now (vector .entry))) (now (self .exit) .tally .counts)) ⌝ }
     {

@@ -1,7 +1,7 @@
 -- A minus in front of a number.
-use mathlib.Core.Path.{_≡_, refl, sym, ap, subst, _∙_}
-use mathlib.Core.List.{List, [], _∷_}
-use Prim.Native.Nat.{ℕ, zero, suc, _+_, _-_, _≤_, _<_}
+use mathlib.Core.Path.{_≡_, sym, ap, _∙_}
+use mathlib.Core.List.{List, _∷_}
+use Prim.Native.Nat.{ℕ, zero, suc, _<_}
 use native.Mathlib.Omega.{arith}
 use lib.ListN.{length, getD, drop}
 use lib.IntN.{ℤ, pos, negsuc}
@@ -10,13 +10,14 @@ use Rattle.std.specs.declared.result.Result.{Result}
 use Rattle.std.specs.declared.result.Result.the-variants.{Ok, Err}
 use Rattle.text.specs.declared.numbers.NumberFault.{NumberFault}
 use Rattle.text.specs.declared.numbers.NumberFault.the-variants.{Digits, Size}
-use Rattle.text.specs.Spelling.{spelled, signed, ReadNumber, ReadSigned}
-use Rattle.text.specs.Spelling.{Plain, negated, positive}
+use Rattle.text.specs.Spelling.{spelled, signed, ReadNumber, ReadSigned, negated, positive}
 use Rattle.text.proofs.Digits.{read, spelled-plain, read-spelled}
 
+-- no number without a sign begins with a minus
 no-minus : (n : ℕ) (rest : List ℕ) → 45 ∷ rest ≡ spelled n → ⊥
 no-minus n rest e = let p = spelled-plain n in omega (arith, p .digits 0 (p .some), ap (λ l. getD l 0 0) e)
 
+-- what a minus and the number after it are read as
 pub knob-minus : (rest : List ℕ) (r : Result ℕ NumberFault) → ReadNumber 65536 rest r → ReadSigned (negsuc 65535) (pos 65535) (45 ∷ rest) (negated r)
 knob-minus rest (Ok zero) h = no
   where
@@ -37,6 +38,7 @@ knob-minus rest (Err Size) h = large (h .0) (h .1) (h .2)
     large zero e l = absurd (omega arith)
     large (suc n) e l = (negsuc n, ap (λ x. 45 ∷ x) e, λ b. omega (arith, ints, b .0))
 
+-- what a field without a minus is read as
 pub knob-plain : (f : List ℕ) (r : Result ℕ NumberFault) → ReadNumber 65535 f r → ((0 < length f) × (getD f 0 0 ≡ 45) → ⊥) → ReadSigned (negsuc 65535) (pos 65535) f (positive r)
 knob-plain f (Ok n) h m = (h .0, omega (arith, ints), omega (arith, ints, h .1))
 knob-plain f (Err Digits) h m = no

@@ -1,6 +1,6 @@
 // The fields of a line, parted by tabs.
 ghost use mathlib.Core.Path.{_≡_};
-ghost use Prim.Native.Nat.{ℕ, _<_};
+ghost use Prim.Native.Nat.{_<_};
 ghost use lib.ListN.{length};
 ghost use Rattle.std.specs.Orderings.{Decides};
 ghost use Rattle.text.specs.Fields.{fields, left, FirstField, Fields-join};

@@ -1,6 +1,6 @@
 // Numbers as a field spells them.
 ghost use mathlib.Core.Path.{_≡_};
-ghost use Prim.Native.Nat.{ℕ, _≤_, _<_};
+ghost use Prim.Native.Nat.{_≤_, _<_};
 ghost use lib.ListN.{length, getD};
 ghost use lib.IntN.{pos, negsuc};
 ghost use Rattle.std.specs.Orderings.{Decides};

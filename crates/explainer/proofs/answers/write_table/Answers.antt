@@ -1,5 +1,5 @@
 -- The proof of `write_table`: what the search leaves open.
-use mathlib.Core.Path.{_≡_, refl, ap, _∙_}
+use mathlib.Core.Path.{refl, ap, _∙_}
 use mathlib.Core.List.{_++_, append-assoc}
 use native.Mathlib.Omega.{arith}
 use lib.Chars.{codes}

@@ -1,7 +1,7 @@
 -- The proof of `explain_line`: what the search leaves open.
-use mathlib.Core.Path.{_≡_, refl, ap}
+use mathlib.Core.Path.{refl, ap}
 use native.Mathlib.Omega.{arith}
-use lib.ListN.{length, length-take}
+use lib.ListN.{length-take}
 use Rattle.std.proofs.shelf.Results.{err-from-errBy}
 use Rattle.sessions.proofs.Lines.{vector-fault, study-gains}
 use Rattle.sessions.proofs.session.explain_line.Needs as need

@@ -1,7 +1,6 @@
 -- The proof of `read_numbers`: what the search leaves open.
-use mathlib.Core.Path.{_≡_, refl, ap, subst}
+use mathlib.Core.Path.{refl, ap, subst}
 use native.Mathlib.Omega.{arith}
-use lib.ListN.{length}
 use Rattle.text.specs.Fields.{left}
 use Rattle.text.proofs.Turns.{Reading, reading-start, reading-none, reading-done, reading-more, reading-fault}
 use Rattle.text.proofs.fields.read_numbers.Needs as need

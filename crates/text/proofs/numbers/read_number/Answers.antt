@@ -1,10 +1,8 @@
 -- The proof of `read_number`: what the search leaves open.
-use mathlib.Core.Path.{_≡_, refl, sym, ap, subst, _∙_}
+use mathlib.Core.Path.{_≡_, sym, ap, subst, _∙_}
 use mathlib.Core.Bool.{true, false}
-use Prim.Native.Nat.{ℕ, _<_, _+_, _*_}
+use Prim.Native.Nat.{ℕ, _+_}
 use native.Mathlib.Omega.{arith}
-use borrow.Author.Needs.{needs}
-use lib.ListN.{length, take}
 use Rattle.text.specs.Spelling.{spelled}
 use Rattle.text.specs.Spelling.{Plain}
 use Rattle.text.proofs.Digits.{read, plain-spelled, spelled-plain, read-more, read-upto, read-all}

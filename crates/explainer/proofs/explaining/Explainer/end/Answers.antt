@@ -1,9 +1,9 @@
 -- The proof of `end`: what the search leaves open.
-use mathlib.Core.Path.{_≡_, refl, sym, ap, subst, _∙_}
+use mathlib.Core.Path.{refl, sym, subst}
 use mathlib.Core.List.{List, [], _∷_, _++_}
 use Prim.Native.Nat.{ℕ}
 use native.Mathlib.Omega.{arith}
-use Rattle.sessions.specs.Histories.{Ended, with-last}
+use Rattle.sessions.specs.Histories.{Ended}
 use Rattle.explainer.proofs.Ending.{handled-none, handled-some, with-none, with-some}
 use Rattle.explainer.proofs.explaining.Explainer.end.Needs as need
 

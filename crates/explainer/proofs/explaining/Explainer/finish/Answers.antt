@@ -1,7 +1,7 @@
 -- The proof of `finish`: what the search leaves open.
 use mathlib.Core.Path.{_≡_, refl, ap, _∙_}
 use mathlib.Core.List.{_++_}
-use Prim.Native.Nat.{ℕ, _-_}
+use Prim.Native.Nat.{_-_}
 use native.Mathlib.Omega.{arith}
 use lib.ListN.{take}
 use Rattle.std.specs.Of.String.{string-bytes}
