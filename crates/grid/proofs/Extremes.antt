@@ -1,13 +1,17 @@
 -- The least and the greatest measure of a vector, and the first place of a measure.
-use mathlib.Core.Path.{_≡_, refl}
+use mathlib.Core.Path.{_≡_, refl, sym, subst, _∙_}
 use mathlib.Core.List.{List, [], _∷_}
 use mathlib.Core.Logic.{_⊎_, inl, inr, ⊎-elim}
-use Prim.Native.Nat.{ℕ, zero, suc, _≤_, _<_}
+use Prim.Native.Nat.{ℕ, zero, suc, _+_, _≤_, _<_}
 use native.Mathlib.Omega.{arith}
 use lib.ListN.{length, getD}
 use Rattle.std.proofs.shelf.Ways.{tells, eqb-tells}
 use Rattle.std.proofs.shelf.Tests.{cases-lt}
+use borrow.Author.Count.{below-more}
+use Rattle.grid.specs.declared.parts.Edge.{Edge}
+use Rattle.grid.specs.declared.parts.Edge.the-variants.{Low, High}
 use Rattle.grid.specs.Vectors.{least, greatest, first-place}
+use Rattle.grid.specs.Keys.{Beyond, extreme}
 use Rattle.grid.specs.KeyRule.{FirstPlace, NoneBelow, NoneAbove}
 
 pub least-le : (v : List ℕ) → NoneBelow v (least v)
@@ -86,23 +90,55 @@ greatest-has (x ∷ (y ∷ ys)) h =
     (λ l. (0, omega arith, omega arith))
     (cases-lt x (greatest (y ∷ ys)))
 
--- what a search for an extreme measure has found at its end
-pub record Found (v : List ℕ) (a p : ℕ) : Type 0 where
-  pub value : getD v p 0 ≡ a
-  pub first : p ≡ first-place a v
+-- p is the first place of the extreme among the first i measures
+pub record Leads (e : Edge) (v : List ℕ) (i p : ℕ) : Type 0 where
+  pub within : p < length v
+  pub none : (k : ℕ) → k < i → Beyond e (getD v k 0) (getD v p 0) → ⊥
+  pub first : (k : ℕ) → k < p → Beyond e (getD v p 0) (getD v k 0)
 
-pub least-found : (v : List ℕ) (p : ℕ) → p < length v → NoneBelow v (getD v p 0)
-    → ((k : ℕ) → k < p → getD v p 0 < getD v k 0) → Found v (least v) p
-least-found v p h b f =
-    let u : least v ≤ getD v p 0 = least-le v p h in
-    let l : getD v p 0 ≤ least v = le-least v (getD v p 0) (omega arith) b in
-    let e : getD v p 0 ≡ least v = omega arith in
-    record { value = e; first = place-is v (least v) p (record { within = h; there = e; first = λ k l q. omega (arith, f k l) }) }
+pub leads-start : (e : Edge) (v : List ℕ) → 0 < length v → Leads e v 0 0
+leads-start e v h = record { within = h; none = λ k l. absurd (omega arith); first = λ k l. absurd (omega arith) }
 
-pub greatest-found : (v : List ℕ) (p : ℕ) → p < length v → NoneAbove v (getD v p 0)
-    → ((k : ℕ) → k < p → getD v k 0 < getD v p 0) → Found v (greatest v) p
-greatest-found v p h b f =
-    let u : getD v p 0 ≤ greatest v = greatest-ge v p h in
-    let l : greatest v ≤ getD v p 0 = greatest-le v (getD v p 0) b in
-    let e : getD v p 0 ≡ greatest v = omega arith in
-    record { value = e; first = place-is v (greatest v) p (record { within = h; there = e; first = λ k l q. omega (arith, f k l) }) }
+-- what is beyond a measure is beyond those that are not
+beyond-trans : (e : Edge) (x y z : ℕ) → Beyond e x y → (Beyond e z y → ⊥) → Beyond e x z
+beyond-trans Low x y z h n = ⊎-elim (λ l. absurd (n l)) (λ l. omega arith) (cases-lt z y)
+beyond-trans High x y z h n = ⊎-elim (λ l. absurd (n l)) (λ l. omega arith) (cases-lt y z)
+
+beyond-not : (e : Edge) (x y : ℕ) → Beyond e x y → Beyond e y x → ⊥
+beyond-not Low x y h b = omega arith
+beyond-not High x y h b = omega arith
+
+beyond-self : (e : Edge) (x : ℕ) → Beyond e x x → ⊥
+beyond-self Low x h = omega arith
+beyond-self High x h = omega arith
+
+-- the next measure is beyond the one found
+pub leads-moves : (e : Edge) (v : List ℕ) (i p : ℕ) → Leads e v i p → i < length v → Beyond e (getD v i 0) (getD v p 0) → Leads e v (i + 1) i
+leads-moves e v i p w l b =
+    let before : (k : ℕ) → k < i → Beyond e (getD v i 0) (getD v k 0) = λ k h. beyond-trans e (getD v i 0) (getD v p 0) (getD v k 0) b (w .none k h) in
+    record { within = l; none = below-more _ _ (λ k h q. beyond-not e (getD v i 0) (getD v k 0) (before k h) q) (beyond-self e (getD v i 0)); first = before }
+
+-- it is not
+pub leads-stays : (e : Edge) (v : List ℕ) (i p : ℕ) → Leads e v i p → (Beyond e (getD v i 0) (getD v p 0) → ⊥) → Leads e v (i + 1) p
+leads-stays e v i p w n = record { within = w .within; none = below-more _ _ (w .none) n; first = w .first }
+
+-- what a search over the whole vector has found
+pub record Found (e : Edge) (v : List ℕ) (p : ℕ) : Type 0 where
+  pub value : getD v p 0 ≡ extreme e v
+  pub first : p ≡ first-place (extreme e v) v
+
+value-found : (e : Edge) (v : List ℕ) (i p : ℕ) → Leads e v i p → length v ≤ i → getD v p 0 ≡ extreme e v
+value-found Low v i p w l =
+    let u : least v ≤ getD v p 0 = least-le v p (w .within) in
+    let b : NoneBelow v (getD v p 0) = λ k h. ⊎-elim (λ q. absurd (w .none k (omega arith) q)) (λ q. q) (cases-lt (getD v k 0) (getD v p 0)) in
+    omega (arith, le-least v (getD v p 0) (omega (arith, w .within)) b)
+value-found High v i p w l =
+    let u : getD v p 0 ≤ greatest v = greatest-ge v p (w .within) in
+    let b : NoneAbove v (getD v p 0) = λ k h. ⊎-elim (λ q. absurd (w .none k (omega arith) q)) (λ q. q) (cases-lt (getD v p 0) (getD v k 0)) in
+    omega (arith, greatest-le v (getD v p 0) b)
+
+pub leads-found : (e : Edge) (v : List ℕ) (i p : ℕ) → Leads e v i p → length v ≤ i → Found e v p
+leads-found e v i p w l =
+    let is : getD v p 0 ≡ extreme e v = value-found e v i p w l in
+    let other : (k : ℕ) → k < p → getD v k 0 ≡ extreme e v → ⊥ = λ k h q. beyond-self e (getD v p 0) (subst (λ m. Beyond e (getD v p 0) m) (q ∙ sym is) (w .first k h)) in
+    record { value = is; first = place-is v (extreme e v) p (record { within = w .within; there = is; first = other }) }

@@ -2,7 +2,7 @@
 use mathlib.Core.List.{List}
 use mathlib.Core.Bool.{cond}
 use mathlib.Core.Path.{_≡_}
-use Prim.Native.Nat.{ℕ, _+_, _*_, _/_, _%_}
+use Prim.Native.Nat.{ℕ, _+_, _*_, _/_, _%_, _<_}
 use lib.IntN.{ℤ, pos, _+ℤ_, _-ℤ_}
 use lib.Signed.{ltZ}
 use lib.ListN.{length}
@@ -17,6 +17,11 @@ edge-at θ a b = cond (ltZ (pos a +ℤ θ) (pos 65535 -ℤ pos b)) Low High
 
 unfoldable pub edge-of : ℤ → List ℕ → Edge
 edge-of θ v = edge-at θ (least v) (greatest v)
+
+-- the measure x lies nearer to the edge than y
+abbrev pub Beyond : Edge → ℕ → ℕ → Type 0
+Beyond Low x y = x < y
+Beyond High x y = y < x
 
 -- what goes with an edge, of two
 abbrev pub on-edge : Edge → ℕ → ℕ → ℕ

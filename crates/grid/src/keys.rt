@@ -2,10 +2,11 @@
 ghost use mathlib.Core.Path.{_≡_};
 ghost use Prim.Native.Nat.{_<_};
 ghost use lib.ListN.{length, getD};
+ghost use Rattle.std.specs.Orderings.{Decides};
 ghost use Rattle.fault.specs.Checks.{Answers};
 ghost use Rattle.fault.specs.Numbers.{window-number};
-ghost use Rattle.grid.specs.Vectors.{least, greatest, first-place};
-ghost use Rattle.grid.specs.Keys.{on-edge, edge-at, key-at, key-place, key-measure, key-of, vector-checks};
+ghost use Rattle.grid.specs.Vectors.{first-place};
+ghost use Rattle.grid.specs.Keys.{Beyond, on-edge, extreme, edge-at, key-at, key-place, key-measure, key-of, vector-checks};
 ghost use Rattle.grid.specs.Parts.{PartsOf};
 use crate::parts::Edge;
 use crate::parts::KeyParts;
@@ -16,32 +17,16 @@ const GRID_TOP: i32 = 65_535;
 
 const STRETCH: u32 = 65_536;
 
-// The first place of the least measure.
-fn least_place(vector: &[u16]) -> usize
+// The first place of the least measure on the low edge, of the greatest on the high edge.
+fn extreme_place(vector: &[u16], edge: Edge) -> usize
     requires { ⌜ 0 < length (now vector) ⌝ }
     ensures within { λ r. ⌜ r < length (now (vector .entry)) ⌝ }
-    ensures value { λ r. ⌜ getD (now (vector .entry)) r 0 ≡ least (now (vector .entry)) ⌝ }
-    ensures first { λ r. ⌜ r ≡ first-place (least (now (vector .entry))) (now (vector .entry)) ⌝ }
+    ensures value { λ r. ⌜ getD (now (vector .entry)) r 0 ≡ extreme edge (now (vector .entry)) ⌝ }
+    ensures first { λ r. ⌜ r ≡ first-place (extreme edge (now (vector .entry))) (now (vector .entry)) ⌝ }
 {
     let mut place = 0;
     for (i, x) in vector.iter().enumerate() {
-        if *x < vector[place] {
-            place = i;
-        }
-    }
-    place
-}
-
-// The first place of the greatest measure.
-fn greatest_place(vector: &[u16]) -> usize
-    requires { ⌜ 0 < length (now vector) ⌝ }
-    ensures within { λ r. ⌜ r < length (now (vector .entry)) ⌝ }
-    ensures value { λ r. ⌜ getD (now (vector .entry)) r 0 ≡ greatest (now (vector .entry)) ⌝ }
-    ensures first { λ r. ⌜ r ≡ first-place (greatest (now (vector .entry))) (now (vector .entry)) ⌝ }
-{
-    let mut place = 0;
-    for (i, x) in vector.iter().enumerate() {
-        if *x > vector[place] {
+        if edge.is_beyond(*x, vector[place]) {
             place = i;
         }
     }
@@ -64,6 +49,16 @@ pub fn split_key(key: u32) -> (usize, u16)
 }
 
 impl Edge {
+    // Whether a measure lies nearer to the edge than another.
+    fn is_beyond(self, x: u16, y: u16) -> bool
+        ensures { λ r. ⌜ Decides r (Beyond self x y) ⌝ }
+    {
+        match self {
+            Edge::Low => x < y,
+            Edge::High => x > y,
+        }
+    }
+
     // What goes with the edge, of two.
     fn pick(self, low: usize, high: usize) -> usize
         ensures { λ r. ⌜ r ≡ on-edge self low high ⌝ }
@@ -100,8 +95,8 @@ impl Setting {
         requires { ⌜ length (now vector) ≡ self .places ⌝ }
         ensures { λ r. ⌜ PartsOf (self .theta) (now (vector .entry)) r ⌝ }
     {
-        let p = least_place(vector);
-        let q = greatest_place(vector);
+        let p = extreme_place(vector, Edge::Low);
+        let q = extreme_place(vector, Edge::High);
         let edge = self.edge(vector[p], vector[q]);
         let place = edge.pick(p, q);
         KeyParts {
