@@ -1,5 +1,6 @@
 -- The proof of `feed`: what the search leaves open.
 use mathlib.Core.Path.{_≡_, refl, sym, subst}
+use mathlib.Core.Bool.{true}
 use mathlib.Core.List.{List, _++_, append-nil}
 use Prim.Native.Nat.{ℕ}
 use native.Mathlib.Omega.{arith}
@@ -20,7 +21,7 @@ loop-b-again g c = λ h is after.
     let w = c .loop-b .inv h is after in
     let P : Split → Type 0 = λ p. (kept (c .feed-byte .last .reader) ≡ take 256 (p .rest)) × g .H·LineHandler .after (c .feed-byte .last .to) (cut (p .lines)) in
     subst P (split-more h (c .args .bytes .now) (c .loop-b .b-index) (omega arith))
-    (c .in-Continue-feed-byte .ensures tt refl (split (h ++ take (c .loop-b .b-index) (c .args .bytes .now))) (w .0) (w .1))
+    (c .in-Continue-feed-byte .ensures tt (refl {a = true}) (split (h ++ take (c .loop-b .b-index) (c .args .bytes .now))) (w .0) (w .1))
 
 pub returns : need.returns
 returns g c = λ ok h is after.
