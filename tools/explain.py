@@ -1,5 +1,7 @@
 #!/usr/bin/env python3
-"""The explain program a second time, written from docs/RULES.md alone, to check the proved one against.
+"""The explain program a second time, in another language and with no code in common, to check the proved one against.
+
+It follows the rules of docs/RULES.md. The same author wrote both programs, so a rule misread once may be misread in both.
 
 Reads sessions from standard input, parted by form feeds, and prints what explain must print for each.
 """

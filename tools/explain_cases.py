@@ -74,7 +74,7 @@ BAD_OPENINGS = [
 ]
 
 
-# the vectors of the eight keys that are worked out in docs/RULES.md
+# the vectors of the eight keys that docs/RULES.md marks
 MARKED = [
     (0, [6554, 39321]), (0, [39321, 58982]), (3276, [13107, 49151]), (3277, [13107, 49151]), (0, [9, 5, 5]),
     (-65535, [65535, 65535]), (-65536, [65535, 65535]), (65535, [0, 0]),

@@ -1,4 +1,4 @@
--- Eight keys worked out by hand from the rules, at ties, at the border of the edges and at the ends of the knob.
+-- The eight keys that the rules mark, at ties, at the border of the edges and at the ends of the knob.
 use mathlib.Core.List.{List, [], _∷_}
 use mathlib.Core.Path.{_≡_}
 use Prim.Native.Nat.{ℕ}

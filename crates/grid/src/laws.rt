@@ -17,7 +17,7 @@ pub fn keys_read_back()
     ensures { λ _. ⌜ Keys-read-back ⌝ }
 {}
 
-// Eight keys that were worked out by hand.
+// The eight keys that the rules mark.
 pub fn marked_keys()
     ensures { λ _. ⌜ MarkedKeys ⌝ }
 {}

@@ -1,4 +1,4 @@
-// Examples of settings, keys and refusals, worked out by hand.
+// Examples of settings, keys and refusals: the eight marked keys, and the limits.
 use fault::WindowFault;
 use grid::parts::KeyParts;
 use grid::settings::Setting;
