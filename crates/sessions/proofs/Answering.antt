@@ -130,4 +130,7 @@ taken-more s t n ls l r room h a =
 
 -- what the counts say of the lines that were taken
 pub taken-counts : (s : Option Study) (n : ℕ) (ls : List (List ℕ)) → Taken s n ls → Ended ls s
-taken-counts s n ls h = (h .1, h .2, counts-answers (take 1000000 ls) (h .1) s (omega (arith, length-take 1000000 ls)) (h .2))
+taken-counts s n ls h = record {
+  answers = (h .1, h .2);
+  counts = λ rs r. counts-answers (take 1000000 ls) rs s (omega (arith, length-take 1000000 ls)) r;
+}

@@ -42,9 +42,10 @@ Counts-answers (Some s) rs = (j : ℕ) (e : Edge) → j < 16 → count-at (s .ta
 abbrev pub Taken : Option Study → ℕ → List (List ℕ) → Type 0
 Taken s n ls = (n ≡ min (length ls) 1000000) × (rs : List (Result Answer LineFault)) × Ran None (take 1000000 ls) rs s
 
--- after the lines ls the counts are those of the answers that were given
-abbrev pub Ended : List (List ℕ) → Option Study → Type 0
-Ended ls s = (rs : List (Result Answer LineFault)) × Ran None (take 1000000 ls) rs s × Counts-answers s rs
+-- after the lines ls: some answers lead to this study, and whichever do, the counts are theirs
+pub record Ended (ls : List (List ℕ)) (s : Option Study) : Type 0 where
+  pub answers : (rs : List (Result Answer LineFault)) × Ran None (take 1000000 ls) rs s
+  pub counts : (rs : List (Result Answer LineFault)) → Ran None (take 1000000 ls) rs s → Counts-answers s rs
 
 -- the lines with what follows the last line feed, if anything does
 abbrev pub with-last : List (List ℕ) → List ℕ → List (List ℕ)

@@ -5,10 +5,9 @@ ghost use lib.ListN.{length};
 ghost use Rattle.std.specs.Orderings.{Decides};
 ghost use Rattle.text.specs.Fields.{fields, left, FirstField, Fields-join};
 ghost use Rattle.text.specs.Reading.{ReadFields};
+use crate::numbers::MOST;
 use crate::numbers::NumberFault;
 use crate::numbers::read_number;
-
-const MOST: u32 = 65_535;
 
 // Why fields are not the numbers that are read.
 #[derive(Clone, Copy)]
@@ -53,7 +52,7 @@ pub fn has_fields(line: &[u8], count: usize) -> bool
     missing == 1
 }
 
-// Whether a part of a line has this many fields. No part has none.
+// Whether what is left of a line has this many fields: none, where nothing is left.
 fn fills(rest: Option<&[u8]>, count: usize) -> bool
     ensures { λ r. ⌜ Decides r (length (left (rest .entry)) ≡ count) ⌝ }
 {

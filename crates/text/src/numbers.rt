@@ -7,7 +7,8 @@ ghost use Rattle.std.specs.Orderings.{Decides};
 ghost use Rattle.std.specs.Vec.{made};
 ghost use Rattle.text.specs.Spelling.{Plain, ReadNumber, ReadSigned, negated, positive};
 
-const MOST: u32 = 65_535;
+// The greatest number that a field may hold.
+pub(crate) const MOST: u32 = 65_535;
 
 const MOST_BELOW_ZERO: u32 = 65_536;
 

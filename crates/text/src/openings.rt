@@ -2,12 +2,11 @@
 ghost use Rattle.text.specs.Fields.{left};
 ghost use Rattle.text.specs.Openings.{ReadPlaces, ReadTheta, TwoFields, ReadOpening};
 use crate::fields::first_field;
+use crate::numbers::MOST;
 use crate::numbers::NumberFault;
 use crate::numbers::read_knob;
 use crate::numbers::read_number;
 use fault::TextFault;
-
-const MOST: u32 = 65_535;
 
 const PLACES_FIELD: usize = 2;
 
