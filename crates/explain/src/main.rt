@@ -1,4 +1,6 @@
 // Reads a setting and vectors as lines, and prints each vector's key, place and edge, and at the end a table of counts.
+#![tactic(auto)]
+
 use explainer::explaining::Explainer;
 use lines::feeding::feed;
 use lines::reader::LineReader;

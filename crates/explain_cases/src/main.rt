@@ -1,4 +1,6 @@
 // Runs many sessions of the explain program, parted by form feeds, for the gate.
+#![tactic(auto)]
+
 use explainer::explaining::Explainer;
 use lines::feeding::feed;
 use lines::reader::LineReader;

@@ -1,4 +1,6 @@
 // Refusals: why a call or a line was refused, by layer, with the number of each.
+#![tactic(auto)]
+
 ghost use Rattle.std.specs.Prelude.{◌≡◌};
 ghost use Rattle.fault.specs.declared.LineFault.TheVariants.{Text, Call};
 ghost use Rattle.fault.specs.declared.SearchFault.TheVariants.{Window, Order};

@@ -1,4 +1,6 @@
 // Settings, and the key of a vector of measures.
+#![tactic(auto)]
+
 pub mod keys;
 pub mod laws;
 pub mod parts;

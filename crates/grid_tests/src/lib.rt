@@ -1,4 +1,6 @@
 // Examples of settings, keys and refusals: the eight marked keys, and the limits.
+#![tactic(auto)]
+
 use fault::WindowFault;
 use grid::parts::KeyParts;
 use grid::settings::Setting;

@@ -1,4 +1,6 @@
 // Examples of windows and plans: the four marked plans, what lies inside, and refusals.
+#![tactic(auto)]
+
 use fault::WindowFault;
 use grid::settings::Setting;
 use plans::plan::Plan;

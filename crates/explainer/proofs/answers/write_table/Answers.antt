@@ -7,12 +7,12 @@ use Rattle.explainer.proofs.answers.write_table.Goals as goal
 
 pub loop-place-preserved : goal.loop-place-preserved
 loop-place-preserved c =
-    counts_more (string_bytes c.write-title.new.to) (string_bytes c.loop-place.to) (string_bytes c.write-counts.new.to) c.args.counts.now c.loop-place.place _ (omega arith)
-    c.loop-place.invariant (c.in-ok-write-counts.ensures refl)
+    counts_more (string_bytes c.write_title.new.to) (string_bytes c.loop-place.to) (string_bytes c.write_counts.new.to) c.args.counts.now c.loop-place.place _ (omega arith)
+    c.loop-place.invariant (c.in_ok-write_counts.ensures refl)
 
 pub returns : goal.returns
 returns c = λ ok.
     c.loop-place.invariant
-    ∙ ap (λ v. string_bytes c.write-title.new.to ++ counts_lines 0 v) (take_all c.loop-place.place c.args.counts.now (omega arith))
-    ∙ ap (λ v. v ++ counts_lines 0 c.args.counts.now) (c.in-ok-write-title.ensures refl)
+    ∙ ap (λ v. string_bytes c.write_title.new.to ++ counts_lines 0 v) (take_all c.loop-place.place c.args.counts.now (omega arith))
+    ∙ ap (λ v. v ++ counts_lines 0 c.args.counts.now) (c.in_ok-write_title.ensures refl)
     ∙ append_assoc (string_bytes c.args.to.now) (codes "place\tlow\thigh\n") (counts_lines 0 c.args.counts.now)

@@ -3,7 +3,7 @@ use Rattle.std.proofs.Common.{◌+◌, false, sym, refl, subst, arith}
 use Rattle.std.proofs.lemmas.Bool.Decides.{not_from_Decides}
 use Rattle.grid.proofs.Extremes.{Leads, leads_start, leads_moves, leads_stays, leads_found}
 use Rattle.grid.proofs.keys.extreme_place.Goals as goal
-use Rattle.grid.proofs.keys.extreme_place.Goals.{then-is-beyond, else-is-beyond}
+use Rattle.grid.proofs.keys.extreme_place.Goals.{then-is_beyond, else-is_beyond}
 
 pub loop-i-init : goal.loop-i-init
 loop-i-init c = leads_start c.args.edge c.args.vector.now c.requires
@@ -14,11 +14,11 @@ loop-i-preserved c =
     let v = c.args.vector.now in
     let i = c.loop-i.i in
     let p = c.loop-i.place in
-    elim c.if-is-beyond.branch [
-      | then-is-beyond w ↦ subst (λ q. Leads e v (i + 1) q) (sym w.place-is) (leads_moves e v i p c.loop-i.invariant (omega arith) (w.if-is-beyond.ensures.0 refl))
-      | else-is-beyond w ↦
+    elim c.if-is_beyond.branch [
+      | then-is_beyond w ↦ subst (λ q. Leads e v (i + 1) q) (sym w.place-is) (leads_moves e v i p c.loop-i.invariant (omega arith) (w.if-is_beyond.ensures.0 refl))
+      | else-is_beyond w ↦
           subst (λ q. Leads e v (i + 1) q) (sym w.place-is)
-          (leads_stays e v i p c.loop-i.invariant (not_from_Decides false w.if-is-beyond.ensures refl))
+          (leads_stays e v i p c.loop-i.invariant (not_from_Decides false w.if-is_beyond.ensures refl))
     ]
 
 pub returns : goal.returns

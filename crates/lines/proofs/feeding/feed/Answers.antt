@@ -14,9 +14,9 @@ loop-b-init g c = λ h is after.
 pub loop-b-preserved : goal.loop-b-preserved
 loop-b-preserved g c = λ h is after.
     let w = c.loop-b.invariant h is after in
-    let P : Split → Type 0 = λ p. (kept c.feed-byte.new.reader ≡ take 256 p.rest) × g.H.LineHandler.after c.feed-byte.new.to (cut p.lines) in
+    let P : Split → Type 0 = λ p. (kept c.feed_byte.new.reader ≡ take 256 p.rest) × g.H.LineHandler.after c.feed_byte.new.to (cut p.lines) in
     subst P (split_more h c.args.bytes.now c.loop-b.b-index (omega arith))
-    (c.in-ok-feed-byte.ensures (refl {a = true}) (split (h ++ take c.loop-b.b-index c.args.bytes.now)) w.0 w.1)
+    (c.in_ok-feed_byte.ensures (refl {a = true}) (split (h ++ take c.loop-b.b-index c.args.bytes.now)) w.0 w.1)
 
 pub returns : goal.returns
 returns g c = λ ok h is after.

@@ -6,12 +6,12 @@ use Rattle.lines.specs.Kept.{kept}
 use Rattle.lines.proofs.Cells.{feed_ends, feed_goes}
 use Rattle.lines.proofs.feeding.feed_byte.Goals as goal
 
-pub returns-in-ok-handle : goal.returns-in-ok-handle
-returns-in-ok-handle g c = λ ok p is after.
-    feed_ends p c.args.b (g.H.LineHandler.after c.handle.new.self) c.line.result.now (kept c.clear.new.self) (c.if-is-line-feed.ensures.0 refl)
-    (c.line.ensures ∙ is) (c.in-ok-handle.ensures refl (cut p.lines) after) c.clear.ensures
+pub returns-in_ok-handle : goal.returns-in_ok-handle
+returns-in_ok-handle g c = λ ok p is after.
+    feed_ends p c.args.b (g.H.LineHandler.after c.handle.new.self) c.line.result.now (kept c.clear.new.self) (c.if-is_line_feed.ensures.0 refl)
+    (c.line.ensures ∙ is) (c.in_ok-handle.ensures refl (cut p.lines) after) c.clear.ensures
 
-pub returns-else-is-line-feed : goal.returns-else-is-line-feed
-returns-else-is-line-feed g c = λ ok p is after.
+pub returns-else-is_line_feed : goal.returns-else-is_line_feed
+returns-else-is_line_feed g c = λ ok p is after.
     feed_goes p c.args.b (g.H.LineHandler.after c.args.to.now) (kept c.args.reader.now) (kept c.push.new.self)
-    (not_from_Decides false c.if-is-line-feed.ensures refl) is after c.push.ensures
+    (not_from_Decides false c.if-is_line_feed.ensures refl) is after c.push.ensures

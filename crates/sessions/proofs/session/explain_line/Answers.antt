@@ -4,20 +4,20 @@ use Rattle.std.proofs.lemmas.Result.{err_from_is_err_and}
 use Rattle.sessions.proofs.Lines.{vector_fault, study_gains}
 use Rattle.sessions.proofs.session.explain_line.Goals as goal
 
-pub returns-in-err-read-vector-line : goal.returns-in-err-read-vector-line
-returns-in-err-read-vector-line c =
+pub returns-in_err-read_vector_line : goal.returns-in_err-read_vector_line
+returns-in_err-read_vector_line c =
     let p = err_from_is_err_and c.from-residual.result c.from-residual.ensures.1 in
     let few = c.args.study.now.setting.dimension.1 in
     let same = ap (λ s. s.places) c.setting.ensures in
     rw (p.1, p.2)
-    (vector_fault c.args.study.now.setting.places c.args.line.now _ _ _ (simp length-take (omega (arith, c.places-places.ensures, same, few))) c.in-err-read-vector-line.ensures, refl)
+    (vector_fault c.args.study.now.setting.places c.args.line.now _ _ _ (simp length-take (omega (arith, c.places-places.ensures, same, few))) c.in_err-read_vector_line.ensures, refl)
 
 pub returns : goal.returns
 returns c =
-    let read = c.in-ok-read-vector-line.ensures in
-    let told = c.in-ok-parts.ensures in (
-      c.read-vector-line.new.measures,
+    let read = c.in_ok-read_vector_line.ensures in
+    let told = c.in_ok-parts.ensures in (
+      c.read_vector_line.new.measures,
       (told.answers.0.0, read.0, read.1, read.2.1),
       told.answers.1,
-      study_gains c.read-vector-line.new.measures c.args.study.now c.explain.new.self told.answers.0.0 told.keeps told.tallies,
+      study_gains c.read_vector_line.new.measures c.args.study.now c.explain.new.self told.answers.0.0 told.keeps told.tallies,
     )

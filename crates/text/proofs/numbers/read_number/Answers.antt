@@ -5,14 +5,14 @@ use Rattle.text.specs.Spelling.{spelled, Plain}
 use Rattle.text.proofs.Digits.{read, plain_spelled, spelled_plain, read_more, read_upto, read_all}
 use Rattle.text.proofs.numbers.read_number.Goals as goal
 
-pub returns-then-not-is-plain : goal.returns-then-not-is-plain
-returns-then-not-is-plain c = λ n e. not_from_Decides false c.if-not-is-plain.ensures refl (subst Plain (sym e) (spelled_plain n))
+pub returns-then-not-is_plain : goal.returns-then-not-is_plain
+returns-then-not-is_plain c = λ n e. not_from_Decides false c.if-not-is_plain.ensures refl (subst Plain (sym e) (spelled_plain n))
 
 pub returns-then-n-limit : goal.returns-then-n-limit
 returns-then-n-limit c =
     let f = c.args.field.now in
     let i = c.loop-b.b-index in
-    (read 0 f, plain_spelled f (c.is-plain.ensures.0 c.if-not-is-plain.false), omega (arith, read_upto f (i + 1), read_more f i (omega arith), c.loop-b.invariant.0))
+    (read 0 f, plain_spelled f (c.is_plain.ensures.0 c.if-not-is_plain.false), omega (arith, read_upto f (i + 1), read_more f i (omega arith), c.loop-b.invariant.0))
 
 pub loop-b-preserved : goal.loop-b-preserved
 loop-b-preserved c = (omega (arith, read_more c.args.field.now c.loop-b.b-index (omega arith), c.loop-b.invariant.0), omega arith)
@@ -21,4 +21,4 @@ pub returns : goal.returns
 returns c =
     let f = c.args.field.now in
     let e : c.loop-b.n ≡ read 0 f = c.loop-b.invariant.0 ∙ read_all f c.loop-b.b-index (omega arith) in
-    (plain_spelled f (c.is-plain.ensures.0 c.if-not-is-plain.false) ∙ ap spelled (sym e), omega (arith, c.loop-b.invariant.1, c.from-limit.ensures))
+    (plain_spelled f (c.is_plain.ensures.0 c.if-not-is_plain.false) ∙ ap spelled (sym e), omega (arith, c.loop-b.invariant.1, c.from-limit.ensures))

@@ -16,7 +16,7 @@ returns-then-last-eq0 c = record {
 
 pub returns : goal.returns
 returns c =
-    let told = c.in-ok-handle.ensures in
+    let told = c.in_ok-handle.ensures in
     record {
       prints = λ ok. (c.handle.new.self, handled_some c.args.last.now c.args.self.now c.handle.new.self (omega arith) told.answers, c.finish-2.ensures.keeps.0, c.finish-2.ensures.prints ok);
       counts = λ ok ls taken.

@@ -11,7 +11,7 @@ returns c =
     record {
       keeps = (refl, refl);
       prints = λ ok.
-          closing_written (string_bytes c.args.self.now.output) (string_bytes c.write-table.new.to) c.args.self.now.session.study study (c.places-places.result - 0) c.counts.result.now
-          (c.write-table.ensures ok) places c.counts.ensures c.in-Some.ensures;
+          closing_written (string_bytes c.args.self.now.output) (string_bytes c.write_table.new.to) c.args.self.now.session.study study (c.places-places.result - 0) c.counts.result.now
+          (c.write_table.ensures ok) places c.counts.ensures c.in-Some.ensures;
       counts = λ ls taken. taken_counts c.args.self.now.session.study c.args.self.now.lines ls taken;
     }

@@ -5,7 +5,7 @@ use Rattle.grid.proofs.settings.Setting.parts_of.Goals as goal
 
 pub returns : goal.returns
 returns c =
-    parts_found c.args.self.theta c.args.vector.now c.extreme-place-p.result c.extreme-place-q.result _
-    c.extreme-place-p.ensures.value c.extreme-place-p.ensures.first
-    c.extreme-place-q.ensures.value c.extreme-place-q.ensures.first
+    parts_found c.args.self.theta c.args.vector.now c.extreme_place-p.result c.extreme_place-q.result _
+    c.extreme_place-p.ensures.value c.extreme_place-p.ensures.first
+    c.extreme_place-q.ensures.value c.extreme_place-q.ensures.first
     c.edge-edge.ensures c.pick-place.ensures refl

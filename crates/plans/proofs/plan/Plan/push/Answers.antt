@@ -5,8 +5,8 @@ use Rattle.plans.specs.Ranges.{EachOnePlace, Rising}
 use Rattle.plans.proofs.Ranges.{places_more, rising_more}
 use Rattle.plans.proofs.plan.Plan.push.Goals as goal
 
-pub invariant-of-self : goal.invariant-of-self
-invariant-of-self c =
+pub invariant_of-self : goal.invariant_of-self
+invariant_of-self c =
     let p = c.args.self.now in
     let rs = take p.len p.ranges in
     let r = c.args.range in

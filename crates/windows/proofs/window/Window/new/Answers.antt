@@ -19,19 +19,19 @@ loop-i-preserved c =
     let w = c.args.intervals.now in
     let old = c.loop-i.invariant in
     let d : Interval = record { low = 0; high = 0 } in (
-      below_more _ _ old.0 (uncrossed (get_or w i d) c.is-crossed.result c.is-crossed.ensures.decides c.if-is-crossed.false, c.is-crossed.ensures.grid),
+      below_more _ _ old.0 (uncrossed (get_or w i d) c.is_crossed.result c.is_crossed.ensures.decides c.if-is_crossed.false, c.is_crossed.ensures.grid),
       length-set c.loop-i.held i _ ∙ old.1,
-      take_more_set c.loop-i.held i _ (omega (arith, old.1, c.args.setting.dimension, c.has-width.ensures.0 c.if-not-has-width.false)) ∙ ap (λ x. x ++ get_or w i d ∷ []) old.2 ∙ sym (take_more w i d (omega arith)),
+      take_more_set c.loop-i.held i _ (omega (arith, old.1, c.args.setting.dimension, c.has_width.ensures.0 c.if-not-has_width.false)) ∙ ap (λ x. x ++ get_or w i d ∷ []) old.2 ∙ sym (take_more w i d (omega arith)),
     )
 
 -- what is held is what was given
 all : (w held : List Interval) (i : ℕ) → length w ≤ i → i ≤ length w → take i held ≡ take i w → take (length w) held ≡ w
 all w held i a b h = let s : i ≡ length w = omega arith in ap (λ m. take m held) (sym s) ∙ h ∙ take_all i w (omega arith)
 
-pub invariant-of-result : goal.invariant-of-result
-invariant-of-result c =
+pub invariant_of-result : goal.invariant_of-result
+invariant_of-result c =
     let w = c.args.intervals.now in
-    let width = c.has-width.ensures.0 c.if-not-has-width.false in
+    let width = c.has_width.ensures.0 c.if-not-has_width.false in
     let s = all w c.loop-i.held c.loop-i.i (omega arith) (omega arith) c.loop-i.invariant.2 in
     let P : (List Interval → Type 0) → Type 0 = λ p. p w → p (take (length w) c.loop-i.held) in
     let held : (p : List Interval → Type 0) → P p = λ p. subst p (sym s) in (
@@ -59,6 +59,6 @@ invariant-of-result c =
 
 pub returns : goal.returns
 returns c = (
-  (c.has-width.ensures.0 c.if-not-has-width.false, ((λ k h. (c.loop-i.invariant.0 k (omega arith)).0), tt)),
+  (c.has_width.ensures.0 c.if-not-has_width.false, ((λ k h. (c.loop-i.invariant.0 k (omega arith)).0), tt)),
   all c.args.intervals.now c.loop-i.held c.loop-i.i (omega arith) (omega arith) c.loop-i.invariant.2,
 )
