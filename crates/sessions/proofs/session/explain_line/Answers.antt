@@ -6,7 +6,7 @@ use Rattle.sessions.proofs.session.explain_line.Goals as goal
 
 pub returns-in_err-read_vector_line : goal.returns-in_err-read_vector_line
 returns-in_err-read_vector_line c =
-    let p = err_from_is_err_and c.from-residual.result c.from-residual.ensures.1 in
+    let p = err_from_is_err_and c.from_residual.result c.from_residual.ensures.1 in
     let few = c.args.study.now.setting.dimension.1 in
     let same = ap (λ s. s.places) c.setting.ensures in
     rw (p.1, p.2)

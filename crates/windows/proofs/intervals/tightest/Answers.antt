@@ -18,13 +18,13 @@ loop-i-preserved c =
     let L : ℕ → Type 0 = λ q. (q < length w) × FarLeads e w (i + 1) q in
     elim c.if-is_beyond.branch [
       | then-is_beyond x ↦
-          subst L (sym x.place_is) (
+          subst L (sym x.place-is) (
             omega arith,
             far_moves e w i p c.loop-i.invariant.1 (omega arith)
                 (subst (λ m. Beyond e (far_at e w i) m) c.far_end-in-loop-i.ensures (subst (λ m. Beyond e m c.far_end-in-loop-i.result) c.far_end.ensures (x.if-is_beyond.ensures.0 refl))),
           )
       | else-is_beyond x ↦
-          subst L (sym x.place_is) (
+          subst L (sym x.place-is) (
             omega arith,
             far_stays e w i p c.loop-i.invariant.1 (omega arith)
                 (λ b. not_from_Decides false x.if-is_beyond.ensures refl

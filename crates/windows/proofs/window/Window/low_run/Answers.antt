@@ -22,7 +22,7 @@ returns-in_err-cap c =
     let θ = c.args.setting.theta in
     let w = c.args.self.now in
     let j = c.args.place in
-    rw c.from-residual-in_err-cap.ensures (record {
+    rw c.from_residual-in_err-cap.ensures (record {
       proper = tt;
       exact = run_none Low θ (intervals_of w) j (λ v h. (reach_bound Low w j (λ v. ⊥) c.in_err-cap.ensures v).1 (run_reach Low θ (intervals_of w) j v h.0 h.1));
     })
@@ -30,7 +30,7 @@ returns-in_err-cap c =
 pub returns-in_err-top : goal.returns-in_err-top
 returns-in_err-top c =
     let f = known (goal.at.returns-in_err-top c).After-low_top in
-    rw c.from-residual-in_err-top.ensures (record {
+    rw c.from_residual-in_err-top.ensures (record {
       proper = tt;
       exact = run_none Low c.args.setting.theta (intervals_of c.args.self.now) c.args.place (λ v h. (c.in_err-top.ensures v).1 (run_sums f v h));
     })

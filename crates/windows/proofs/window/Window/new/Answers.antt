@@ -34,28 +34,16 @@ invariant_of-result c =
     let width = c.has_width.ensures.0 c.if-not-has_width.false in
     let s = all w c.loop-i.held c.loop-i.i (omega arith) (omega arith) c.loop-i.invariant.2 in
     let P : (List Interval → Type 0) → Type 0 = λ p. p w → p (take (length w) c.loop-i.held) in
-    let held : (p : List Interval → Type 0) → P p = λ p. subst p (sym s) in (
-      c.loop-i.invariant.1,
-      (
-        omega (arith, c.args.setting.dimension, width),
-        (
-          omega (arith, ap length s, c.args.setting.dimension, width),
-          (
-            held Uncrossed (λ k h. (c.loop-i.invariant.0 k (omega arith)).0),
-            (
-              held EndsOnGrid (λ k h. (c.loop-i.invariant.0 k (omega arith)).1),
-              (
-                held (λ x. IsExtreme High (far_ends High x) c.tightest.result) c.tightest.ensures,
-                (
-                  held (λ x. IsExtreme Low (far_ends Low x) c.tightest-2.result) c.tightest-2.ensures,
-                  tt,
-                ),
-              ),
-            ),
-          ),
-        ),
-      ),
-    )
+    let held : (p : List Interval → Type 0) → P p = λ p. subst p (sym s) in
+    record {
+      long = c.loop-i.invariant.1;
+      few = omega (arith, c.args.setting.dimension, width);
+      some = omega (arith, ap length s, c.args.setting.dimension, width);
+      uncrossed = held Uncrossed (λ k h. (c.loop-i.invariant.0 k (omega arith)).0);
+      grid = held EndsOnGrid (λ k h. (c.loop-i.invariant.0 k (omega arith)).1);
+      lows = held (λ x. IsExtreme High (far_ends High x) c.tightest.result) c.tightest.ensures;
+      highs = held (λ x. IsExtreme Low (far_ends Low x) c.tightest-2.result) c.tightest-2.ensures;
+    }
 
 pub returns : goal.returns
 returns c = (
