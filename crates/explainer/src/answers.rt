@@ -29,7 +29,8 @@ fn refused_letter(opened: bool, fault: LineFault) -> &'static str
 fn write_opened(to: &mut String, line: u32) -> fmt::Result
     ensures { is_ok result ≡ true → string_bytes to.new ≡ string_bytes to.old ++ (decimal line ++ codes "\tD\t0\n") }
 {
-    write!(to, "{line}\tD\t0\n")
+    write!(to, "{line}\tD\t0\n")?;
+    Ok(())
 }
 
 fn write_explained(to: &mut String, line: u32, parts: KeyParts) -> fmt::Result
@@ -38,7 +39,8 @@ fn write_explained(to: &mut String, line: u32, parts: KeyParts) -> fmt::Result
     let key = parts.key();
     let place = parts.place();
     let edge = parts.edge().word();
-    write!(to, "{line}\tV\t0\t{key}\t{place}\t{edge}\n")
+    write!(to, "{line}\tV\t0\t{key}\t{place}\t{edge}\n")?;
+    Ok(())
 }
 
 fn write_refused(to: &mut String, line: u32, letter: &str, fault: LineFault) -> fmt::Result
@@ -47,7 +49,8 @@ fn write_refused(to: &mut String, line: u32, letter: &str, fault: LineFault) -> 
     let number = fault.number();
     let layer = fault.layer().word();
     let field = fault.field();
-    write!(to, "{line}\t{letter}\t{number}\t{layer}\t{field}\n")
+    write!(to, "{line}\t{letter}\t{number}\t{layer}\t{field}\n")?;
+    Ok(())
 }
 
 fn write_accepted(to: &mut String, line: u32, answer: Answer) -> fmt::Result
@@ -80,7 +83,8 @@ fn write_counts(to: &mut String, place: usize, counts: Counts) -> fmt::Result
 {
     let low = counts.low;
     let high = counts.high;
-    write!(to, "{place}\t{low}\t{high}\n")
+    write!(to, "{place}\t{low}\t{high}\n")?;
+    Ok(())
 }
 
 fn write_title(to: &mut String) -> fmt::Result
