@@ -1,5 +1,5 @@
 -- The key of a vector is the one number that the rule gives, and it tells its place and its measure.
-use Rattle.std.proofs.Common.{◌≡◌, ℕ, ◌/◌, ◌%◌, ◌<◌, ◌≤◌, ◌⊎◌, List, length, get_or, ℤ, sym, ap, ◌∙◌, subst, inl, inr, ⊎_elim, arith}
+use Rattle.std.proofs.Common.{◌≡◌, ℕ, ◌/◌, ◌%◌, ◌<◌, ◌≤◌, List, length, get_or, ℤ, sym, ap, ◌∙◌, subst, inl, inr, ⊎_elim, arith}
 use Rattle.std.proofs.lemmas.Int.{ints}
 use Rattle.grid.specs.declared.parts.Edge.TheVariants.{Low, High}
 use Rattle.grid.specs.Vectors.{least, greatest, first_place}

@@ -1,5 +1,5 @@
 -- Two lists of ranges that keep the rule and have the same keys are equal.
-use Rattle.std.proofs.Common.{◌≡◌, ℕ, suc, ◌+◌, ◌/◌, ◌<◌, ◌≤◌, ◌⊎◌, List, [], ◌∷◌, sym, refl, ap, ◌∙◌, inl, inr, ⊎_elim, arith}
+use Rattle.std.proofs.Common.{◌≡◌, ℕ, suc, ◌+◌, ◌/◌, ◌<◌, ◌≤◌, List, [], ◌∷◌, sym, refl, ap, ◌∙◌, inl, inr, ⊎_elim, arith}
 use Rattle.plans.specs.declared.plan.KeyRange.{KeyRange}
 use Rattle.plans.specs.Ranges.{Apart, OnePlace, EachOnePlace, Rising}
 use Rattle.plans.specs.Planning.{Covers, PlansAgree}

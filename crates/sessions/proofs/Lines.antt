@@ -1,5 +1,5 @@
 -- What is known of a vector line from the reading of its fields, and of the study after it.
-use Rattle.std.proofs.Common.{◌≡◌, ℕ, ◌-◌, ◌^◌, ◌<◌, cond, ◌⊎◌, List, [], ◌∷◌, ◌++◌, length, take, Err, sym, ap, ◌∙◌, subst, inl, inr, ⊎_elim, eq-eqb}
+use Rattle.std.proofs.Common.{◌≡◌, ℕ, ◌-◌, ◌^◌, ◌<◌, cond, List, [], ◌∷◌, ◌++◌, length, take, Err, sym, ap, ◌∙◌, subst, inl, inr, ⊎_elim, eq-eqb}
 use Rattle.fault.specs.declared.TextFault.{TextFault}
 use Rattle.text.specs.declared.fields.FieldsFault.{FieldsFault}
 use Rattle.text.specs.declared.fields.FieldsFault.TheVariants.{Count, At}

@@ -1,5 +1,5 @@
 -- The run of a place in plain sums, and what its finder has found.
-use Rattle.std.proofs.Common.{◌≡◌, ℕ, zero, suc, ◌+◌, ◌<◌, ◌≤◌, min, List, length, ℤ, pos, ◌+ℤ◌, None, Option, sym, ap, ◌∙◌, subst, arith}
+use Rattle.std.proofs.Common.{◌≡◌, ℕ, zero, suc, ◌<◌, ◌≤◌, min, List, length, ℤ, pos, ◌+ℤ◌, None, Option, sym, ap, ◌∙◌, subst, arith}
 use Rattle.std.proofs.lemmas.Int.{ints}
 use Rattle.grid.specs.declared.parts.Edge.{Edge}
 use Rattle.grid.specs.declared.parts.Edge.TheVariants.{Low, High}

@@ -1,5 +1,5 @@
 -- The proof of `push`: what the search leaves open.
-use Rattle.std.proofs.Common.{◌≤◌, false, ◌⊎◌, refl, ⊎_elim}
+use Rattle.std.proofs.Common.{◌≤◌, false, refl, ⊎_elim}
 use Rattle.std.proofs.lemmas.Bool.{cases_lt}
 use Rattle.std.proofs.lemmas.Bool.Decides.{not_from_Decides}
 use Rattle.lines.proofs.Cells.{kept_more, kept_past}
