@@ -2,3 +2,4 @@
 pub mod Extremes
 pub mod Edges
 pub mod Rules
+pub mod Marked

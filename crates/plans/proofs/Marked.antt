@@ -2,7 +2,7 @@
 use Rattle.std.proofs.Common.{ℕ, zero, suc, ◌+◌, ◌*◌, ◌<◌, ◌≤◌, List, [], ◌∷◌, length, ℤ, pos, ◌+ℤ◌, ◌≤ℤ◌, ◌<ℤ◌, refl, inl, inr, ⊎_elim, arith}
 use Rattle.std.proofs.lemmas.Int.{ints}
 use Rattle.std.proofs.lemmas.Bool.{cases_lt}
-use Rattle.grid.specs.Keys.{edge_of, key_of}
+use Rattle.grid.proofs.Marked.{marked_keys}
 use Rattle.windows.specs.declared.intervals.Interval.{Interval}
 use Rattle.windows.specs.Intervals.{interval_at}
 use Rattle.windows.specs.Runs.{LowRun, HighRun, lowest_top, highest_bottom, Valid}
@@ -149,18 +149,4 @@ high_only =
     )))
 
 pub marked : MarkedLines
-unfolding edge_of key_of
-marked = record {
-  least = record { edge = refl; key = refl };
-  greatest = record { edge = refl; key = refl };
-  below_border = record { edge = refl; key = refl };
-  on_border = record { edge = refl; key = refl };
-  tied_least = record { edge = refl; key = refl };
-  tied_greatest = record { edge = refl; key = refl };
-  least_knob = record { edge = refl; key = refl };
-  most_knob = record { edge = refl; key = refl };
-  one_place = one_place;
-  whole_grid = whole_grid;
-  one_value = one_value;
-  high_only = high_only;
-}
+marked = record { marked_keys = marked_keys; one_place = one_place; whole_grid = whole_grid; one_value = one_value; high_only = high_only }

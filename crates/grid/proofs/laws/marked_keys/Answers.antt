@@ -1,17 +1,6 @@
 -- The proof of `marked_keys`: what the search leaves open.
-use Rattle.std.proofs.Common.{refl}
-use Rattle.grid.specs.Keys.{edge_of, key_of}
+use Rattle.grid.proofs.Marked.{marked_keys}
 use Rattle.grid.proofs.laws.marked_keys.Goals as goal
 
 pub returns : goal.returns
-unfolding edge_of key_of
-returns c = record {
-  least = record { edge = refl; key = refl };
-  greatest = record { edge = refl; key = refl };
-  below_border = record { edge = refl; key = refl };
-  on_border = record { edge = refl; key = refl };
-  tied_least = record { edge = refl; key = refl };
-  tied_greatest = record { edge = refl; key = refl };
-  least_knob = record { edge = refl; key = refl };
-  most_knob = record { edge = refl; key = refl };
-}
+returns c = marked_keys
