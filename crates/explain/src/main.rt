@@ -2,11 +2,11 @@
 #![tactic(auto)]
 
 use explainer::explaining::Explainer;
+use lines::chunks::for_each_chunk;
 use lines::feeding::feed;
 use lines::reader::LineReader;
-use std::io::{Read, Write};
-
-const CHUNK: usize = 4096;
+use std::io::Write;
+use std::ops::ControlFlow;
 
 // Prints what the explainer has written.
 fn print(rt: &HostRuntime, explainer: &mut Explainer) -> anyhow::Result<()> {
@@ -15,22 +15,27 @@ fn print(rt: &HostRuntime, explainer: &mut Explainer) -> anyhow::Result<()> {
     Ok(())
 }
 
+// Takes in bytes, and prints the answers to the lines that they end. No further bytes are taken once the explainer is done.
+fn take_bytes(
+    rt: &HostRuntime,
+    reader: &mut LineReader,
+    explainer: &mut Explainer,
+    bytes: &[u8],
+) -> anyhow::Result<ControlFlow<()>> {
+    feed(reader, explainer, bytes)?;
+    print(rt, explainer)?;
+    if explainer.is_done() {
+        return Ok(ControlFlow::Break(()));
+    }
+    Ok(ControlFlow::Continue(()))
+}
+
 fn main(rt: HostRuntime) -> anyhow::Result<()> {
-    let mut input = rt.stdin();
-    let mut buffer = [0u8; CHUNK];
     let mut reader = LineReader::new();
     let mut explainer = Explainer::new(rt.alloc());
-    for _turn in 0..u64::MAX {
-        if explainer.is_done() {
-            break;
-        }
-        let count = input.read(&mut buffer)?;
-        if count == 0 {
-            break;
-        }
-        feed(&mut reader, &mut explainer, &buffer[0..count])?;
-        print(&rt, &mut explainer)?;
-    }
+    for_each_chunk(&mut rt.stdin(), |bytes| {
+        take_bytes(&rt, &mut reader, &mut explainer, bytes)
+    })?;
     explainer.end(reader.line())?;
     print(&rt, &mut explainer)
 }

@@ -2,13 +2,13 @@
 #![tactic(auto)]
 
 use explainer::explaining::Explainer;
+use lines::chunks::for_each_chunk;
 use lines::feeding::feed;
 use lines::reader::LineReader;
-use std::io::{Read, Write};
+use std::io::Write;
+use std::ops::ControlFlow;
 
-const CHUNK: usize = 4096;
-
-const SEPARATOR: u8 = 12;
+const SEPARATOR: u8 = b'\x0c';
 
 // Ends a session, prints what it has written, and starts the next.
 fn restart(
@@ -23,33 +23,29 @@ fn restart(
     Ok(())
 }
 
+// Takes in bytes, and starts the next session after each separator.
 fn take_bytes(
     rt: &HostRuntime,
     reader: &mut LineReader,
     explainer: &mut Explainer,
     bytes: &[u8],
-) -> anyhow::Result<()> {
-    for b in bytes {
-        if *b == SEPARATOR {
-            restart(rt, reader, explainer)?;
-        } else {
-            feed(reader, explainer, &[*b])?;
-        }
+) -> anyhow::Result<ControlFlow<()>> {
+    let mut parts = bytes.split(|b| *b == SEPARATOR);
+    if let Some(part) = parts.next() {
+        feed(reader, explainer, part)?;
     }
-    Ok(())
+    for part in parts {
+        restart(rt, reader, explainer)?;
+        feed(reader, explainer, part)?;
+    }
+    Ok(ControlFlow::Continue(()))
 }
 
 fn main(rt: HostRuntime) -> anyhow::Result<()> {
-    let mut input = rt.stdin();
-    let mut buffer = [0u8; CHUNK];
     let mut reader = LineReader::new();
     let mut explainer = Explainer::new(rt.alloc());
-    for _turn in 0..u64::MAX {
-        let count = input.read(&mut buffer)?;
-        if count == 0 {
-            break;
-        }
-        take_bytes(&rt, &mut reader, &mut explainer, &buffer[0..count])?;
-    }
+    for_each_chunk(&mut rt.stdin(), |bytes| {
+        take_bytes(&rt, &mut reader, &mut explainer, bytes)
+    })?;
     restart(&rt, &mut reader, &mut explainer)
 }

@@ -1,3 +1,1 @@
 -- The lemmas of `explainer`.
-mod Writing
-mod Ending

@@ -1,5 +1,6 @@
 -- The bytes of answer lines.
-use Rattle.std.specs.Prelude.{ℕ, ◌+◌, Bool, true, false, List, [], ◌∷◌, ◌++◌, take, Some, None, Ok, Err, codes, decimal, Option, Result}
+use Rattle.std.specs.Prelude.{ℕ, Bool, true, false, List, [], ◌++◌, take, flat_map, Some, None, Ok, Err, codes, decimal, Option, Result}
+use Rattle.std.specs.List.{enumerate_from}
 use Rattle.fault.specs.declared.LineFault.{LineFault}
 use Rattle.fault.specs.declared.LineFault.TheVariants.{Text, Call}
 use Rattle.fault.specs.declared.TextFault.TheVariants.{Line, Letter, Fields, Digits, Size, Dimension, Knob, Count}
@@ -52,8 +53,7 @@ counts_line j c = decimal j ++ (codes "\t" ++ (decimal c.low ++ (codes "\t" ++ (
 
 -- the lines of places from j on
 abbrev pub counts_lines : ℕ → List Counts → List ℕ
-counts_lines j [] = []
-counts_lines j (c ∷ cs) = counts_line j c ++ counts_lines (j + 1) cs
+counts_lines j cs = flat_map (λ p. counts_line p.0 p.1) (enumerate_from j cs)
 
 -- a title, and a line for each place
 abbrev pub table_of : List Counts → List ℕ
@@ -62,4 +62,4 @@ table_of cs = codes "place\tlow\thigh\n" ++ counts_lines 0 cs
 -- what is printed at the end of a session: nothing, or the table of its setting's places
 abbrev pub closing : Option Study → List ℕ
 closing None = []
-closing (Some s) = table_of (take s.setting.places s.tally.counts)
+closing (Some s) = table_of (take s.setting.places s.tally)

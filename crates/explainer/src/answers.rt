@@ -1,64 +1,61 @@
 // Answer lines, byte for byte.
-ghost use Rattle.std.specs.Prelude.{◌≡◌, true, ◌++◌, is_ok, string_bytes, codes, decimal};
-ghost use Rattle.explainer.specs.Written.{taken_letter, refused_letter, explained_line, refused_line, accepted_line, answer_line, counts_line, table_of};
+ghost use Rattle.std.specs.Prelude.{◌≡◌, ◌++◌, Some, OnOk, string_bytes};
+ghost use Rattle.explainer.specs.Written.{taken_letter, refused_letter, answer_line, counts_line, table_of};
 
 use fault::{LineFault, TextFault};
-use grid::parts::KeyParts;
 use sessions::session::Answer;
 use sessions::tally::Counts;
 use std::fmt;
 use std::fmt::Write;
 
-// The letter that a session takes.
-fn taken_letter(opened: bool) -> &'static str
-    ensures { result.now ≡ taken_letter opened }
-{
-    if opened { "V" } else { "D" }
+// The answer to a line, and whether the session was open before it, as the session says it.
+#[derive(Clone, Copy, Debug)]
+struct AnswerLine {
+    line: u32,
+    opened: bool,
+    answer: Result<Answer, LineFault>,
 }
 
-// The letter of a refused line.
-fn refused_letter(opened: bool, fault: LineFault) -> &'static str
-    ensures { result.now ≡ refused_letter opened fault }
-{
-    match fault {
-        LineFault::Text(TextFault::Line | TextFault::Letter) => "-",
-        _ => taken_letter(opened),
+impl AnswerLine {
+    // The letter that the session takes.
+    fn taken_letter(&self) -> &'static str
+        ensures { result.now ≡ taken_letter self.now.opened }
+    {
+        if self.opened { "V" } else { "D" }
+    }
+
+    // The letter of a line that is refused so.
+    fn refused_letter(&self, fault: LineFault) -> &'static str
+        ensures { result.now ≡ refused_letter self.now.opened fault }
+    {
+        match fault {
+            LineFault::Text(TextFault::Line | TextFault::Letter) => "-",
+            _ => self.taken_letter(),
+        }
     }
 }
 
-fn write_opened(to: &mut String, line: u32) -> fmt::Result
-    ensures { is_ok result ≡ true → string_bytes to.new ≡ string_bytes to.old ++ (decimal line ++ codes "\tD\t0\n") }
-{
-    write!(to, "{line}\tD\t0\n")?;
-    Ok(())
-}
+impl fmt::Display for AnswerLine {
+    ghost output = { λ a. Some (answer_line a.line a.opened a.answer) };
 
-fn write_explained(to: &mut String, line: u32, parts: KeyParts) -> fmt::Result
-    ensures { is_ok result ≡ true → string_bytes to.new ≡ string_bytes to.old ++ explained_line line parts }
-{
-    let key = parts.key();
-    let place = parts.place();
-    let edge = parts.edge().word();
-    write!(to, "{line}\tV\t0\t{key}\t{place}\t{edge}\n")?;
-    Ok(())
-}
-
-fn write_refused(to: &mut String, line: u32, letter: &str, fault: LineFault) -> fmt::Result
-    ensures { is_ok result ≡ true → string_bytes to.new ≡ string_bytes to.old ++ refused_line line letter.now fault }
-{
-    let number = fault.number();
-    let layer = fault.layer().word();
-    let field = fault.field();
-    write!(to, "{line}\t{letter}\t{number}\t{layer}\t{field}\n")?;
-    Ok(())
-}
-
-fn write_accepted(to: &mut String, line: u32, answer: Answer) -> fmt::Result
-    ensures { is_ok result ≡ true → string_bytes to.new ≡ string_bytes to.old ++ accepted_line line answer }
-{
-    match answer {
-        Answer::Opened => write_opened(to, line),
-        Answer::Explained(parts) => write_explained(to, line, parts),
+    fn fmt<W: fmt::Write>(&self, f: &mut fmt::Formatter<W>) -> fmt::Result {
+        let line = self.line;
+        match self.answer {
+            Ok(Answer::Opened) => writeln!(f, "{line}\tD\t0"),
+            Ok(Answer::Explained(parts)) => {
+                let key = parts.key();
+                let place = parts.place();
+                let edge = parts.edge();
+                writeln!(f, "{line}\tV\t0\t{key}\t{place}\t{edge}")
+            }
+            Err(fault) => {
+                let letter = self.refused_letter(fault);
+                let number = fault.number();
+                let layer = fault.layer();
+                let field = fault.field();
+                writeln!(f, "{line}\t{letter}\t{number}\t{layer}\t{field}")
+            }
+        }
     }
 }
 
@@ -69,37 +66,42 @@ pub fn write_answer(
     opened: bool,
     res: Result<Answer, LineFault>,
 ) -> fmt::Result
-    ensures { is_ok result ≡ true → string_bytes to.new ≡ string_bytes to.old ++ answer_line line opened res }
+    ensures { OnOk result (string_bytes to.new ≡ string_bytes to.old ++ answer_line line opened res) }
 {
-    match res {
-        Ok(answer) => write_accepted(to, line, answer),
-        Err(fault) => write_refused(to, line, refused_letter(opened, fault), fault),
-    }
-}
-
-// Writes how many vectors stand on the edges of a place.
-fn write_counts(to: &mut String, place: usize, counts: Counts) -> fmt::Result
-    ensures { is_ok result ≡ true → string_bytes to.new ≡ string_bytes to.old ++ counts_line place counts }
-{
-    let low = counts.low;
-    let high = counts.high;
-    write!(to, "{place}\t{low}\t{high}\n")?;
+    let answer = AnswerLine {
+        line,
+        opened,
+        answer: res,
+    };
+    write!(to, "{answer}")?;
     Ok(())
 }
 
-fn write_title(to: &mut String) -> fmt::Result
-    ensures { is_ok result ≡ true → string_bytes to.new ≡ string_bytes to.old ++ codes "place\tlow\thigh\n" }
-{
-    to.write_str("place\tlow\thigh\n")
+// How many vectors stand on the edges of a place.
+#[derive(Clone, Copy, Debug)]
+struct CountsLine {
+    place: usize,
+    counts: Counts,
+}
+
+impl fmt::Display for CountsLine {
+    ghost output = { λ c. Some (counts_line c.place c.counts) };
+
+    fn fmt<W: fmt::Write>(&self, f: &mut fmt::Formatter<W>) -> fmt::Result {
+        let place = self.place;
+        let Counts { low, high } = self.counts;
+        writeln!(f, "{place}\t{low}\t{high}")
+    }
 }
 
 // Writes the counts of places, from place 0 on.
 pub fn write_table(to: &mut String, counts: &[Counts]) -> fmt::Result
-    ensures { is_ok result ≡ true → string_bytes to.new ≡ string_bytes to.old ++ table_of counts.now }
+    ensures { OnOk result (string_bytes to.new ≡ string_bytes to.old ++ table_of counts.now) }
 {
-    write_title(to)?;
-    for (place, one) in counts.iter().enumerate() {
-        write_counts(to, place, *one)?;
+    to.write_str("place\tlow\thigh\n")?;
+    for (place, counts) in counts.iter().enumerate() {
+        let counts = *counts;
+        write!(to, "{}", CountsLine { place, counts })?;
     }
     Ok(())
 }

@@ -1,5 +1,5 @@
 -- Each refusal found again from its number, its layer and its field.
-use Rattle.std.proofs.Common.{◌≡◌, ℕ, cond, eqb, sym, refl, ap, ◌∙◌}
+use Rattle.std.proofs.Common.{◌≡◌, ℕ, ◌==◌, if◌then◌else◌, sym, refl, ap, ◌∙◌}
 use Rattle.fault.specs.declared.Layer.{Layer}
 use Rattle.fault.specs.declared.Layer.TheVariants.{Text as text, Window as window, Order as order}
 use Rattle.fault.specs.declared.OrderFault.TheVariants.{Full, Present, Missing}
@@ -13,7 +13,7 @@ use Rattle.fault.specs.declared.LineFault.TheVariants.{Text, Call}
 use Rattle.fault.specs.Numbers.{search_number, line_number, line_layer, line_field, NumbersTell}
 
 abbrev at : {X : Type 0} → ℕ → ℕ → X → X → X
-at n m x y = cond (eqb n m) x y
+at n m x y = if n == m then x else y
 
 abbrev search_named : ℕ → SearchFault
 search_named n = at n 1 (Window Dimension) (at n 2 (Window Knob) (at n 3 (Window Width) (at n 4 (Window Slot) (at n 5 (Window Taken) (at n 6 (Window Absent) (at n 7 (Order Full)

@@ -1,13 +1,16 @@
 // Refusals: why a call or a line was refused, by layer, with the number of each.
 #![tactic(auto)]
 
-ghost use Rattle.std.specs.Prelude.{◌≡◌};
+ghost use Rattle.std.specs.Prelude.{◌≡◌, Some};
 ghost use Rattle.fault.specs.declared.LineFault.TheVariants.{Text, Call};
 ghost use Rattle.fault.specs.declared.SearchFault.TheVariants.{Window, Order};
 ghost use Rattle.fault.specs.Numbers.{layer_word, order_number, window_number, text_number, text_field, search_number, search_layer, line_number, line_layer, line_field, NumbersTell};
 
+use std::fmt;
+use thiserror::Error;
+
 // The part of the library that refuses.
-#[derive(Clone, Copy)]
+#[derive(Clone, Copy, Debug, PartialEq, Eq)]
 pub enum Layer {
     Text,
     Window,
@@ -15,7 +18,7 @@ pub enum Layer {
 }
 
 impl Layer {
-    // The layer's name in an answer line.
+    // The layer's name in an answer line, for a caller that wants the text itself; `Display` prints it.
     pub fn word(self) -> &'static str
         ensures { result.now ≡ layer_word self }
     {
@@ -27,14 +30,22 @@ impl Layer {
     }
 }
 
+impl fmt::Display for Layer {
+    ghost output = { λ l. Some (layer_word l) };
+
+    fn fmt<W: fmt::Write>(&self, f: &mut fmt::Formatter<W>) -> fmt::Result {
+        f.pad(self.word())
+    }
+}
+
 // Why an ordered index refuses a change.
-#[derive(Clone, Copy)]
+#[derive(Clone, Copy, Debug, PartialEq, Eq, Error)]
 pub enum OrderFault {
-    // it holds as many entries as it may
+    #[error("the index holds as many entries as it may")]
     Full,
-    // the entry to add is there
+    #[error("the entry to add is there")]
     Present,
-    // the entry to drop is not there
+    #[error("the entry to drop is not there")]
     Missing,
 }
 
@@ -51,27 +62,27 @@ impl OrderFault {
 }
 
 // Why the search index, or what it is made of, refuses a call.
-#[derive(Clone, Copy)]
+#[derive(Clone, Copy, Debug, PartialEq, Eq, Error)]
 pub enum WindowFault {
-    // the number of places is 0 or above 16
+    #[error("the number of places is 0 or above 16")]
     Dimension,
-    // the knob is outside its limits
+    #[error("the knob is outside its limits")]
     Knob,
-    // a vector or a window hasn't as many places as the setting
+    #[error("the vector or the window hasn't as many places as the setting")]
     Width,
-    // the record number is above 65,535 or has no slot
+    #[error("the record number is above 65,535 or has no slot")]
     Slot,
-    // the record number is held
+    #[error("the record number is held")]
     Taken,
-    // the record number isn't held
+    #[error("the record number isn't held")]
     Absent,
-    // some low end is above its high end
+    #[error("some low end is above its high end")]
     Crossed,
-    // an entry doesn't fit its slot
+    #[error("an entry doesn't fit its slot")]
     Stray,
-    // more records than places in the list
+    #[error("there are more records than places in the list")]
     Short,
-    // as many neighbours as asked for can't be written
+    #[error("as many neighbours as asked for can't be written")]
     Count,
 }
 
@@ -95,23 +106,23 @@ impl WindowFault {
 }
 
 // Why a line is no command. A case with a number holds the field, counted from 1.
-#[derive(Clone, Copy)]
+#[derive(Clone, Copy, Debug, PartialEq, Eq, Error)]
 pub enum TextFault {
-    // above 255 bytes
+    #[error("the line is above 255 bytes")]
     Line,
-    // the first field is no letter that is allowed here
+    #[error("the first field is no letter that is allowed here")]
     Letter,
-    // another count of fields than the letter takes
+    #[error("the letter takes another count of fields")]
     Fields,
-    // a field is no number of the stated form
+    #[error("field {0} is no number of the stated form")]
     Digits(usize),
-    // a number is above 65,535
+    #[error("field {0} is above 65,535")]
     Size(usize),
-    // a number of places is above 65,535
+    #[error("field {0}, a number of places, is above 65,535")]
     Dimension(usize),
-    // a knob is outside its limits
+    #[error("field {0}, a knob, is outside its limits")]
     Knob(usize),
-    // a count of neighbours is above 65,535
+    #[error("field {0}, a count of neighbours, is above 65,535")]
     Count(usize),
 }
 
@@ -148,9 +159,11 @@ impl TextFault {
 }
 
 // Why a call of the search index is refused: by itself, or by the ordered index below.
-#[derive(Clone, Copy)]
+#[derive(Clone, Copy, Debug, PartialEq, Eq, Error)]
 pub enum SearchFault {
+    #[error(transparent)]
     Window(WindowFault),
+    #[error(transparent)]
     Order(OrderFault),
 }
 
@@ -175,9 +188,11 @@ impl SearchFault {
 }
 
 // Why a line is refused: as text, or by the call that it makes.
-#[derive(Clone, Copy)]
+#[derive(Clone, Copy, Debug, PartialEq, Eq, Error)]
 pub enum LineFault {
+    #[error(transparent)]
     Text(TextFault),
+    #[error(transparent)]
     Call(SearchFault),
 }
 
@@ -211,6 +226,7 @@ impl LineFault {
     }
 }
 
+// The conversions are written out and not derived with the errors, so that clauses know which refusal a `?` makes.
 impl From<WindowFault> for SearchFault {
     ghost from_gives = { λ f r. r ≡ Window f };
 

@@ -1,10 +1,13 @@
 -- The key of a vector by its edge: the laws that stand between the definitions of edge and key and whoever uses them.
-use Rattle.std.proofs.Common.{◌≡◌, ℕ, true, false, cond, ◌⊎◌, List, get_or, ℤ, pos, ◌+ℤ◌, ◌-ℤ◌, ◌≤ℤ◌, ◌<ℤ◌, sym, refl, ap, ◌∙◌, inl, inr, arith}
+use Rattle.std.proofs.Common.{◌≡◌, ℕ, true, false, cond, ◌⊎◌, List, map, ℤ, pos, ◌+ℤ◌, ◌-ℤ◌, ◌≤ℤ◌, ◌<ℤ◌, sym, refl, ap, ◌∙◌, subst, inl, inr, arith}
 use lib.Signed.{lt_z}
 use Rattle.std.proofs.lemmas.Int.{ints, by_lt_z}
 use Rattle.grid.specs.declared.parts.Edge.{Edge}
 use Rattle.grid.specs.declared.parts.Edge.TheVariants.{Low, High}
 use Rattle.grid.specs.declared.parts.KeyParts.{KeyParts}
+use Rattle.std.proofs.lemmas.List.{map-id}
+use Rattle.grid.specs.declared.extremes.Extreme.{Extreme}
+use Rattle.grid.specs.Extremes.{IsExtreme}
 use Rattle.grid.specs.Vectors.{least, greatest, first_place}
 use Rattle.grid.specs.Keys.{on_edge, edge_at, edge_of, extreme, measure_of, place_of, key_at, key_of}
 use Rattle.grid.specs.Parts.{PartsOf}
@@ -45,16 +48,18 @@ edge_found : (θ : ℤ) (v : List ℕ) (a b : ℕ) (e : Edge) → a ≡ least v 
 unfolding edge_of
 edge_found θ v a b e p q h = (λ i. edge_at θ (sym p i) (sym q i)) ∙ sym h
 
-pub parts_found : (θ : ℤ) (v : List ℕ) (p q : ℕ) (k : KeyParts) → get_or v p 0 ≡ least v → p ≡ first_place (least v) v
-    → get_or v q 0 ≡ greatest v → q ≡ first_place (greatest v) v → k.edge ≡ edge_at θ (get_or v p 0) (get_or v q 0)
-    → k.place ≡ on_edge k.edge p q → k.measure ≡ get_or v k.place 0 → PartsOf θ v k
-parts_found θ v p q k lp fp lq fq e at m =
-    let h = edge_found θ v (get_or v p 0) (get_or v q 0) k.edge lp lq e in
-    let f = found k.edge in
-    let em : k.measure ≡ measure_of θ v = m ∙ ap (λ j. get_or v j 0) at ∙ f.0 ∙ ap (λ e. extreme e v) (sym h) in
-    let ep : k.place ≡ place_of θ v = at ∙ f.1 ∙ ap (λ e. first_place (extreme e v) v) (sym h) in
+pub parts_found : (θ : ℤ) (v : List ℕ) (a b x : Extreme) (k : KeyParts) → IsExtreme Low (map (λ n. n) v) a → IsExtreme High (map (λ n. n) v) b
+    → k.edge ≡ edge_at θ a.measure b.measure → x ≡ on_edge k.edge a b → k.measure ≡ x.measure → k.place ≡ x.place → PartsOf θ v k
+parts_found θ v a b x k least_is greatest_is edge_is x_is m p =
+    let low : IsExtreme Low v a = subst (λ w. IsExtreme Low w a) (map-id v) least_is in
+    let high : IsExtreme High v b = subst (λ w. IsExtreme High w b) (map-id v) greatest_is in
+    let h = edge_found θ v a.measure b.measure k.edge low.0 high.0 edge_is in
+    let found : IsExtreme k.edge v x = subst (IsExtreme k.edge v) (sym x_is) (picked k.edge low high) in
+    let f : IsExtreme (edge_of θ v) v x = subst (λ e. IsExtreme e v x) (sym h) found in
+    let em : k.measure ≡ measure_of θ v = m ∙ f.0 in
+    let ep : k.place ≡ place_of θ v = p ∙ f.1 in
     record { edge = sym h; measure = em; place = ep; key = (λ i. key_at (ep i) (em i)) ∙ sym (key_parts θ v) }
   where
-    found : (e : Edge) → (get_or v (on_edge e p q) 0 ≡ extreme e v) × (on_edge e p q ≡ first_place (extreme e v) v)
-    found Low = (lp, fp)
-    found High = (lq, fq)
+    picked : (e : Edge) → IsExtreme Low v a → IsExtreme High v b → IsExtreme e v (on_edge e a b)
+    picked Low l g = l
+    picked High l g = g

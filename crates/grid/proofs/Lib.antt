@@ -1,5 +1,5 @@
 -- The lemmas of `grid`.
-pub mod Extremes
+pub mod ExtremeLemmas
 pub mod Edges
 pub mod Rules
 pub mod Marked

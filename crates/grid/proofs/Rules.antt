@@ -5,7 +5,7 @@ use Rattle.grid.specs.declared.parts.Edge.TheVariants.{Low, High}
 use Rattle.grid.specs.Vectors.{least, greatest, first_place}
 use Rattle.grid.specs.Keys.{key_at, key_of}
 use Rattle.grid.specs.KeyRule.{FirstPlace, Extremes, EdgeKey, HasKey, KeysFollowTheRule, KeyTells, KeysTell}
-use Rattle.grid.proofs.Extremes.{least_le, le_least, least_has, greatest_ge, greatest_le, greatest_has, extreme_first, place_is}
+use Rattle.grid.proofs.ExtremeLemmas.{least_le, le_least, least_has, greatest_ge, greatest_le, greatest_has, extreme_first, place_is}
 use Rattle.grid.proofs.Edges.{edge_cases, low_edge, high_edge, key_low, key_high}
 
 has_key : (θ : ℤ) (v : List ℕ) → 0 < length v → HasKey θ v (key_of θ v)

@@ -1,5 +1,5 @@
 -- The edge and the key of a vector under a knob θ.
-use Rattle.std.specs.Prelude.{◌≡◌, ℕ, ◌+◌, ◌*◌, ◌/◌, ◌%◌, ◌<◌, cond, List, length, ℤ, pos, ◌+ℤ◌, ◌-ℤ◌, int_lt}
+use Rattle.std.specs.Prelude.{◌≡◌, ℕ, ◌+◌, ◌*◌, ◌/◌, ◌%◌, ◌<◌, if◌then◌else◌, List, length, ℤ, pos, ◌+ℤ◌, ◌-ℤ◌, int_lt}
 use Rattle.fault.specs.Checks.{Checks, check, done}
 use Rattle.grid.specs.declared.parts.Edge.{Edge}
 use Rattle.grid.specs.declared.parts.Edge.TheVariants.{Low, High}
@@ -7,7 +7,7 @@ use Rattle.grid.specs.Vectors.{least, greatest, first_place}
 
 -- the edge of a vector with the least measure a and the greatest b: low where a + θ is below 65,535 − b
 abbrev pub edge_at : ℤ → ℕ → ℕ → Edge
-edge_at θ a b = cond (int_lt (pos a +ℤ θ) (pos 65535 -ℤ pos b)) Low High
+edge_at θ a b = if int_lt (pos a +ℤ θ) (pos 65535 -ℤ pos b) then Low else High
 
 unfoldable pub edge_of : ℤ → List ℕ → Edge
 edge_of θ v = edge_at θ (least v) (greatest v)
@@ -18,7 +18,7 @@ Beyond Low x y = x < y
 Beyond High x y = y < x
 
 -- what goes with an edge, of two
-abbrev pub on_edge : Edge → ℕ → ℕ → ℕ
+abbrev pub on_edge : {A : Type 0} → Edge → A → A → A
 on_edge Low a b = a
 on_edge High a b = b
 

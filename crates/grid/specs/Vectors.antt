@@ -1,5 +1,5 @@
 -- Vectors as lists of measures: the least and the greatest measure, and the first place of a measure.
-use Rattle.std.specs.Prelude.{ℕ, suc, ◌<◌, ◌≤◌, min, max, cond, List, [], ◌∷◌, length, ◌==◌, slice_index}
+use Rattle.std.specs.Prelude.{ℕ, suc, ◌<◌, ◌≤◌, min, max, if◌then◌else◌, List, [], ◌∷◌, length, ◌==◌, slice_index}
 
 abbrev pub least : List ℕ → ℕ
 least [] = 0
@@ -13,7 +13,7 @@ greatest (x ∷ xs) = max x (greatest xs)
 -- the first place that has the measure a, counted from 0
 abbrev pub first_place : ℕ → List ℕ → ℕ
 first_place a [] = 0
-first_place a (x ∷ xs) = cond (x == a) 0 (suc (first_place a xs))
+first_place a (x ∷ xs) = if x == a then 0 else suc (first_place a xs)
 
 -- every measure is one of the grid
 abbrev pub OnGrid : List ℕ → Type 0

@@ -1,11 +1,11 @@
 // The key of a vector under a setting.
-ghost use Rattle.std.specs.Prelude.{◌≡◌, ◌<◌, length, Decides, slice_index};
+ghost use Rattle.std.specs.Prelude.{◌≡◌, ◌↔◌, length, IsTrue};
 ghost use Rattle.fault.specs.Checks.{Answers};
 ghost use Rattle.fault.specs.Numbers.{window_number};
-ghost use Rattle.grid.specs.Vectors.{first_place};
-ghost use Rattle.grid.specs.Keys.{Beyond, on_edge, extreme, edge_at, key_at, key_place, key_measure, key_of, vector_checks};
+ghost use Rattle.grid.specs.Keys.{Beyond, on_edge, edge_at, key_at, key_place, key_measure, key_of, vector_checks};
 ghost use Rattle.grid.specs.Parts.{PartsOf};
 
+use crate::extremes::{Extreme, first_extreme};
 use crate::parts::{Edge, KeyParts};
 use crate::settings::Setting;
 use fault::WindowFault;
@@ -15,31 +15,14 @@ const GRID_TOP: i32 = 65_535;
 // How far the keys of two places lie apart.
 pub const STRETCH: u32 = 65_536;
 
-// The first place of the least measure on the low edge, of the greatest on the high edge.
-fn extreme_place(vector: &[u16], edge: Edge) -> usize
-    requires { 0 < length vector.now }
-    ensures within { result < length vector.now }
-    ensures value { slice_index vector.now result ≡ extreme edge vector.now }
-    ensures first { result ≡ first_place (extreme edge vector.now) vector.now }
-{
-    let mut place = 0;
-    for (i, x) in vector.iter().enumerate() {
-        if edge.is_beyond(*x, vector[place]) {
-            place = i;
-        }
-    }
-    place
-}
-
 // The key of a measure at a place.
-fn key_at(place: usize, measure: u16) -> u32
-    requires { place < 16 }
+pub fn key_at(place: u16, measure: u16) -> u32
     ensures { result ≡ key_at place measure }
 {
-    STRETCH * place as u32 + u32::from(measure)
+    STRETCH * u32::from(place) + u32::from(measure)
 }
 
-// The place and the measure that make a key.
+// The place and the measure that make a key. Both are below 65,536, so the casts keep them.
 pub fn split_key(key: u32) -> (usize, u16)
     ensures { result ≡ (key_place key, key_measure key) }
 {
@@ -49,7 +32,7 @@ pub fn split_key(key: u32) -> (usize, u16)
 impl Edge {
     // Whether a measure lies nearer to the edge than another.
     pub fn is_beyond(self, x: u16, y: u16) -> bool
-        ensures { Decides result (Beyond self x y) }
+        ensures { IsTrue result ↔ Beyond self x y }
     {
         match self {
             Edge::Low => x < y,
@@ -58,7 +41,7 @@ impl Edge {
     }
 
     // What goes with the edge, of two.
-    fn pick(self, low: usize, high: usize) -> usize
+    fn pick(self, low: Extreme, high: Extreme) -> Extreme
         ensures { result ≡ on_edge self low high }
     {
         match self {
@@ -72,7 +55,8 @@ impl KeyParts {
     pub fn key(self) -> u32
         ensures { result ≡ key_at self.place self.measure }
     {
-        key_at(self.place, self.measure)
+        // a place is below 16, so the cast keeps it
+        key_at(self.place as u16, self.measure)
     }
 }
 
@@ -88,19 +72,19 @@ impl Setting {
         }
     }
 
-    // The parts of the key of a vector that has as many places as the setting.
+    // The parts of the key of a vector that has as many places as the setting, and so has extremes.
     fn parts_of(self, vector: &[u16]) -> KeyParts
         requires { length vector.now ≡ self.places }
         ensures { PartsOf self.theta vector.now result }
     {
-        let p = extreme_place(vector, Edge::Low);
-        let q = extreme_place(vector, Edge::High);
-        let edge = self.edge(vector[p], vector[q]);
-        let place = edge.pick(p, q);
+        let low = first_extreme(vector, Edge::Low).unwrap();
+        let high = first_extreme(vector, Edge::High).unwrap();
+        let edge = self.edge(low.measure, high.measure);
+        let Extreme { measure, place } = edge.pick(low, high);
         KeyParts {
             edge,
             place,
-            measure: vector[place],
+            measure,
         }
     }
 
@@ -108,7 +92,7 @@ impl Setting {
     pub fn key_parts(self, vector: &[u16]) -> Result<KeyParts, WindowFault>
         ensures { Answers window_number (vector_checks self.places vector.now) (λ p. PartsOf self.theta vector.now p) result }
     {
-        if vector.len() != self.places {
+        if !self.has_width(vector.len()) {
             return Err(WindowFault::Width);
         }
         Ok(self.parts_of(vector))
@@ -118,7 +102,6 @@ impl Setting {
     pub fn key(self, vector: &[u16]) -> Result<u32, WindowFault>
         ensures { Answers window_number (vector_checks self.places vector.now) (λ k. k ≡ key_of self.theta vector.now) result }
     {
-        let parts = self.key_parts(vector)?;
-        Ok(parts.key())
+        Ok(self.key_parts(vector)?.key())
     }
 }

@@ -8,6 +8,7 @@ pub fn keys_follow_the_rule()
 {}
 
 // A key fits 32 bits, its place is one of the vector's, and its measure is the vector's there and at no place before.
+#[tactic(auto, using(crate::proofs::Rules::tell))]
 pub fn keys_tell()
     ensures { KeysTell }
 {}
@@ -18,6 +19,7 @@ pub fn keys_read_back()
 {}
 
 // The eight keys that the rules mark.
+#[tactic(auto, using(crate::proofs::Marked::marked_keys))]
 pub fn marked_keys()
     ensures { MarkedKeys }
 {}

@@ -1,3 +1,3 @@
 -- The lemmas of `lines`.
-mod Cells
-mod Glue
+mod Cutting
+mod Reading

@@ -1,3 +1,3 @@
 -- The definitions that the contracts of `lines` cite.
+pub mod Chunks
 pub mod Lines
-pub mod Kept

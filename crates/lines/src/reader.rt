@@ -1,55 +1,63 @@
 // A line as its bytes come in.
-ghost use Rattle.std.specs.Prelude.{◌≡◌, ◌<◌, ◌≤◌, [], ◌∷◌, ◌++◌, length, take, Decides};
+ghost use Rattle.std.specs.Prelude.{◌≡◌, ◌<◌, ◌≤◌, ◌↔◌, [], ◌∷◌, ◌++◌, length, take, IsTrue};
+
+use arrayvec::ArrayVec;
+use std::marker::Model;
 
 const KEPT: usize = 256;
 
-fn has_room(len: usize) -> bool
-    ensures { Decides result (len < 256) }
-{
-    len < KEPT
+// The first 256 bytes of a line that has not ended: enough to tell that it is above 255 bytes.
+#[derive(Debug, Drop)]
+pub struct LineReader {
+    bytes: ArrayVec<u8, KEPT>,
 }
 
-// The first 256 bytes of a line that has not ended: enough to tell that it is above 255 bytes.
-#[derive(Drop)]
-pub struct LineReader {
-    bytes: [u8; 256],
-    len: usize,
-    ghost long: { length bytes ≡ 256 },
-    ghost few: { len ≤ 256 },
+impl Model for LineReader {
+    ghost use Rattle.std.specs.Prelude.{ℕ, List};
+
+    ghost Value = { List ℕ };
+
+    ghost view = { λ r. r.bytes.items };
 }
 
 impl LineReader {
     pub fn new() -> LineReader
-        ensures { take result.len result.bytes ≡ [] }
+        ensures { result ≡ [] }
     {
         LineReader {
-            bytes: [0; 256],
-            len: 0,
+            bytes: ArrayVec::new(),
         }
+    }
+
+    // Whether one more byte of the line is kept.
+    fn has_room(&self) -> bool
+        ensures room { IsTrue result ↔ (length self.now < 256) }
+        ensures fits { length self.now ≤ 256 }
+    {
+        !self.bytes.is_full()
     }
 
     // Takes in one more byte of the line.
     pub fn push(&mut self, b: u8)
-        ensures { take self.new.len self.new.bytes ≡ take 256 (take self.old.len self.old.bytes ++ b ∷ []) }
+        ensures { self.new ≡ take 256 (self.old ++ b ∷ []) }
     {
-        let len = self.len;
-        if has_room(len) {
-            self.bytes[len] = b;
-            self.len = len + 1;
+        if self.has_room() {
+            self.bytes.push(b);
         }
     }
 
     // The line so far.
     pub fn line(&self) -> &[u8]
-        ensures { result.now ≡ take self.now.len self.now.bytes }
+        ensures value { result.now ≡ self.now }
+        ensures fits { length result.now ≤ 256 }
     {
-        &self.bytes[0..self.len]
+        self.bytes.as_slice()
     }
 
     // Starts a new line.
     pub fn clear(&mut self)
-        ensures { take self.new.len self.new.bytes ≡ [] }
+        ensures { self.new ≡ [] }
     {
-        self.len = 0;
+        self.bytes.clear();
     }
 }

@@ -12,14 +12,6 @@ pub fn interval(low: u16, high: u16) -> Interval {
     Interval { low, high }
 }
 
-// The number of a refusal, or 0.
-pub fn refusal(res: Result<(), WindowFault>) -> u8 {
-    match res {
-        Ok(()) => 0,
-        Err(fault) => fault.number(),
-    }
-}
-
 // The plan of a window with as many places as it has intervals.
 pub fn plan_of(theta: i32, intervals: &[Interval]) -> Result<Plan, WindowFault> {
     let setting = Setting::new(intervals.len(), theta)?;
@@ -30,31 +22,17 @@ pub fn plan_of(theta: i32, intervals: &[Interval]) -> Result<Plan, WindowFault> 
 
 // Whether the plan of a window has just these ranges.
 pub fn plans(theta: i32, intervals: &[Interval], ends: &[(u32, u32)]) -> bool {
-    let Ok(plan) = plan_of(theta, intervals) else {
-        return false;
-    };
-    let ranges = plan.ranges();
-    if ranges.len() != ends.len() {
-        return false;
-    }
-    for (i, range) in ranges.iter().enumerate() {
-        let (low, high) = ends[i];
-        if range.low != low || range.high != high {
-            return false;
-        }
-    }
-    true
+    plan_of(theta, intervals).is_ok_and(|plan| {
+        let ranges = plan.ranges().iter().map(|range| (range.low, range.high));
+        ranges.eq(ends.iter().copied())
+    })
 }
 
 // Whether a vector lies inside a window with as many places as it has intervals.
 pub fn holds(intervals: &[Interval], vector: &[u16]) -> bool {
-    let Ok(setting) = Setting::new(intervals.len(), 0) else {
-        return false;
-    };
-    match Window::new(setting, intervals) {
-        Ok(window) => window.contains(vector),
-        Err(_) => false,
-    }
+    Setting::new(intervals.len(), 0)
+        .and_then(|setting| Window::new(setting, intervals))
+        .is_ok_and(|window| window.contains(vector))
 }
 
 #[cfg(test)]
@@ -78,18 +56,15 @@ mod tests {
 
     #[test]
     fn refusals(rt: HostRuntime) -> Result<(), Fail> {
-        let Ok(setting) = Setting::new(2, 0) else {
-            return Err(Fail::new("no setting"));
-        };
-        let Ok(mut plan) = plan_of(0, &[interval(5, 5)]) else {
-            return Err(Fail::new("no plan"));
-        };
+        let setting = Setting::new(2, 0)?;
+        let mut plan = plan_of(0, &[interval(5, 5)])?;
         let crossed = interval(8, 7);
-        assert_eq!(rt; refusal(plan_window(setting, &[crossed], &mut plan)), 3);
-        assert_eq!(rt;
-            refusal(plan_window(setting, &[interval(0, TOP), crossed], &mut plan)),
-            8
-        );
+        let refused = plan_window(setting, &[crossed], &mut plan);
+        assert_eq!(rt; refused, Err(WindowFault::Width));
+        assert_eq!(rt; refused.map_err(|fault| fault.number()), Err(3));
+        let refused = plan_window(setting, &[interval(0, TOP), crossed], &mut plan);
+        assert_eq!(rt; refused, Err(WindowFault::Crossed));
+        assert_eq!(rt; refused.map_err(|fault| fault.number()), Err(8));
         assert!(rt; plan.is_planned(5));
         assert!(rt; !plan.is_planned(6));
         Ok(())

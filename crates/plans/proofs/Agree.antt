@@ -1,17 +1,17 @@
 -- Two lists of ranges that keep the rule and have the same keys are equal.
 use Rattle.std.proofs.Common.{◌≡◌, ℕ, suc, ◌+◌, ◌/◌, ◌<◌, ◌≤◌, List, [], ◌∷◌, sym, refl, ap, ◌∙◌, inl, inr, ⊎_elim, arith}
-use Rattle.plans.specs.declared.plan.KeyRange.{KeyRange}
-use Rattle.plans.specs.Ranges.{Apart, OnePlace, EachOnePlace, Rising}
+use Rattle.std.specs.Prelude.{All}
+use Rattle.plans.specs.Ranges.{KeyRange, Apart, OnePlace, Rising}
 use Rattle.plans.specs.Planning.{Covers, PlansAgree}
 use Rattle.plans.proofs.Listed.{In, Rises, in_planned, planned_in}
 
-rises_of : (rs : List KeyRange) → EachOnePlace rs → Rising rs → Rises rs
+rises_of : (rs : List KeyRange) → All OnePlace rs → Rising rs → Rises rs
 rises_of [] e c = tt
-rises_of (r ∷ []) e c = e 0 (omega arith)
+rises_of (r ∷ []) e c = e 0 r (omega arith)
 rises_of (r ∷ (s ∷ rs)) e c = (
-  e 0 (omega arith),
+  e 0 r (omega arith),
   c 0 (omega arith),
-  rises_of (s ∷ rs) (λ i l. e (suc i) (omega arith))
+  rises_of (s ∷ rs) (λ i d l. e (suc i) d (omega arith))
       (λ i l. let q : suc i + 1 ≡ suc (i + 1) = omega arith in rw q at (c (suc i) (omega arith))),
 )
 
@@ -54,9 +54,7 @@ no_shorter r s rs ss h g e same l =
     (same (r.high + 1) (inl (omega (arith, p.0), omega arith)))
 
 range_ext : (r s : KeyRange) → r.low ≡ s.low → r.high ≡ s.high → r ≡ s
-range_ext r s a b =
-    let R : ℕ → ℕ → KeyRange = λ x y. record { low = x; high = y } in
-    ap (λ x. R x r.high) a ∙ ap (λ y. R s.low y) b
+range_ext r s low high = λ i. record { low = low i; high = high i }
 
 inner : (r s : KeyRange) (rs ss : List KeyRange) → Rises (r ∷ rs) → r.high ≡ s.high → Same (r ∷ rs) (s ∷ ss) → Same rs ss
 inner r s rs ss h e same k i = ⊎_elim (λ p. absurd (omega (arith, p.1, (later r rs h k i).0))) (λ p. p) (same k (inr i))

@@ -1,5 +1,6 @@
 -- The lemmas of `plans`.
 pub mod Ranges
+mod Cells
 mod Merging
 mod Gaining
 mod Placed

@@ -1,12 +1,12 @@
 -- Ranges and windows that are written out: what they plan, and their rule, range by range.
-use Rattle.std.proofs.Common.{◌≡◌, ℕ, zero, suc, ◌+◌, ◌-◌, ◌*◌, ◌/◌, ◌<◌, ◌≤◌, ◌⊎◌, List, [], ◌∷◌, length, ℤ, sym, subst, inl, inr, arith}
+use Rattle.std.proofs.Common.{◌≡◌, ℕ, zero, suc, ◌+◌, ◌-◌, ◌*◌, ◌/◌, ◌<◌, ◌≤◌, ◌⊎◌, List, [], ◌∷◌, length, ℤ, sym, refl, subst, inl, inr, arith}
+use Rattle.std.specs.Prelude.{All}
 use Rattle.grid.specs.Keys.{key_at}
-use Rattle.windows.specs.declared.intervals.Interval.{Interval}
+use Rattle.windows.specs.Intervals.{Interval}
 use Rattle.windows.specs.Runs.{AtPlace, Valid}
 use Rattle.windows.specs.Wanted.{Wanted}
 use Rattle.windows.proofs.Wanted.{Runs, wanted_of, wanted_split}
-use Rattle.plans.specs.declared.plan.KeyRange.{KeyRange}
-use Rattle.plans.specs.Ranges.{Has, Planned, Apart, OnePlace, EachOnePlace, Rising, Rule}
+use Rattle.plans.specs.Ranges.{KeyRange, Has, Planned, Apart, OnePlace, Rising, Rule}
 use Rattle.plans.specs.Planning.{Covers}
 
 -- one of the ranges has the key
@@ -16,13 +16,13 @@ In (r ∷ rs) k = Has r k ⊎ In rs k
 
 pub in_planned : (rs : List KeyRange) (k : ℕ) → In rs k → Planned rs k
 in_planned [] k h = absurd h
-in_planned (r ∷ rs) k (inl h) = (0, omega arith, h)
-in_planned (r ∷ rs) k (inr h) = let p = in_planned rs k h in (suc p.0, omega (arith, p.1), p.2)
+in_planned (r ∷ rs) k (inl h) = (0, r, omega arith, refl, h)
+in_planned (r ∷ rs) k (inr h) = let p = in_planned rs k h in (suc p.0, p.1, omega (arith, p.2), p.3, p.4)
 
 pub planned_in : (rs : List KeyRange) (k : ℕ) → Planned rs k → In rs k
-planned_in [] k (i, h, has) = absurd (omega arith)
-planned_in (r ∷ rs) k (zero, h, has) = inl has
-planned_in (r ∷ rs) k (suc i, h, has) = inr (planned_in rs k (i, omega arith, has))
+planned_in [] k (i, x, h, e, has) = absurd (omega arith)
+planned_in (r ∷ rs) k (zero, x, h, e, has) = inl (subst (λ y. Has y k) (sym e) has)
+planned_in (r ∷ rs) k (suc i, x, h, e, has) = inr (planned_in rs k (i, x, omega arith, e, has))
 
 -- the rule
 abbrev pub Rises : List KeyRange → Type 0
@@ -30,12 +30,12 @@ Rises [] = Unit {0}
 Rises (r ∷ []) = OnePlace r
 Rises (r ∷ (s ∷ rs)) = OnePlace r × Apart r.high s.low × Rises (s ∷ rs)
 
-rises_places : (rs : List KeyRange) → Rises rs → EachOnePlace rs
-rises_places [] h i l = absurd (omega arith)
-rises_places (r ∷ []) h zero l = h
-rises_places (r ∷ []) h (suc i) l = absurd (omega arith)
-rises_places (r ∷ (s ∷ rs)) h zero l = h.0
-rises_places (r ∷ (s ∷ rs)) h (suc i) l = rises_places (s ∷ rs) h.2 i (omega arith)
+rises_places : (rs : List KeyRange) → Rises rs → All OnePlace rs
+rises_places [] h i d l = absurd (omega arith)
+rises_places (r ∷ []) h zero d l = h
+rises_places (r ∷ []) h (suc i) d l = absurd (omega arith)
+rises_places (r ∷ (s ∷ rs)) h zero d l = h.0
+rises_places (r ∷ (s ∷ rs)) h (suc i) d l = rises_places (s ∷ rs) h.2 i d (omega arith)
 
 rises_rising : (rs : List KeyRange) → Rises rs → Rising rs
 rises_rising [] h i l = absurd (omega arith)

@@ -1,25 +1,20 @@
 -- The plan of the places before j, and of one more.
-use Rattle.std.proofs.Common.{◌≡◌, ℕ, ◌+◌, ◌*◌, ◌<◌, ◌≤◌, ◌⊎◌, List, [], length, ℤ, Option, subst, inl, inr, ⊎_elim, arith, length-take}
+use Rattle.std.proofs.Common.{◌≡◌, ℕ, ◌+◌, ◌*◌, ◌<◌, ◌≤◌, ◌⊎◌, ◌↔◌, List, length, ℤ, Option, subst, inl, inr, ⊎_elim, arith}
 use Rattle.std.proofs.lemmas.Bool.{cases_lt}
 use Rattle.grid.specs.Keys.{key_at}
-use Rattle.windows.specs.declared.intervals.Interval.{Interval}
-use Rattle.windows.specs.declared.window.Window.{Window}
+use Rattle.windows.specs.Intervals.{Interval}
 use Rattle.windows.specs.Runs.{AtPlace, Valid}
 use Rattle.windows.specs.Wanted.{Wanted}
 use Rattle.windows.specs.Finding.{Holds, Same, InLowRun, InHighRun}
-use Rattle.windows.specs.Held.{intervals_of}
 use Rattle.windows.proofs.Wanted.{Runs, wanted_of, wanted_split}
-use Rattle.plans.specs.declared.plan.KeyRange.{KeyRange}
-use Rattle.plans.specs.declared.plan.Plan.{Plan}
-use Rattle.plans.specs.Ranges.{Planned, Apart, Rule}
-use Rattle.plans.specs.Planning.{ranges_of, Merges, RunKey, Gains, Covers, Tight, IsPlan}
+use Rattle.plans.specs.Ranges.{KeyRange, Planned, Apart, Rule}
+use Rattle.plans.specs.Planning.{Merges, RunKey, Gains, Covers, Tight, IsPlan}
 
--- the ranges have the wanted keys of the places before j
-abbrev pub Upto : ℤ → List Interval → ℕ → List KeyRange → Type 0
-Upto θ w j rs = (k : ℕ) → (Planned rs k → (k < 65536 * j) × Wanted θ w k) × (k < 65536 * j → Wanted θ w k → Planned rs k)
-
-pub upto_none : (θ : ℤ) (w : List Interval) (rs : List KeyRange) → rs ≡ [] → Upto θ w 0 rs
-upto_none θ w rs e = rw e (λ k. ((λ h. absurd (omega (arith, h.1))), (λ h. absurd (omega arith))))
+-- the ranges are the plan of the places before j
+pub record Upto (θ : ℤ) (w : List Interval) (j : ℕ) (rs : List KeyRange) : Type 0 where
+  pub few : length rs ≤ 2 * j
+  pub rule : Rule rs
+  pub keys : (k : ℕ) → Planned rs k ↔ ((k < 65536 * j) × Wanted θ w k)
 
 -- what is known of one place
 pub record Step (θ : ℤ) (w : List Interval) (j : ℕ) (low high first second : Option (ℕ × ℕ)) : Type 0 where
@@ -48,42 +43,38 @@ module _ {θ : ℤ} {w : List Interval} {j : ℕ} {low high first second : Optio
 
   -- what is asked where the two runs are added
   pub first_apart : (rs : List KeyRange) → Upto θ w j rs → (k v : ℕ) → Planned rs k → Apart k (key_at j v)
-  first_apart rs u k v h = let b = ((u k).0 h).0 in (omega arith, λ e. omega arith)
+  first_apart rs u k v h = let b = ((u.keys k).0 h).0 in (omega arith, λ e. omega arith)
 
   pub second_apart : (rs rs₁ : List KeyRange) → Upto θ w j rs → Gains rs j first rs₁ → (k v : ℕ) → Planned rs₁ k → Holds second v → Apart k (key_at j v)
   second_apart rs rs₁ u g k v h p = ⊎_elim
       (λ a. first_apart rs u k v a)
       (λ a. let m = s.merges.apart a.0 v a.1 p in (omega (arith, a.2), λ e. omega (arith, a.2)))
-      ((g.1 k).0 h)
+      ((g.keys k).0 h)
 
-  pub upto_more : (rs rs₁ rs₂ : List KeyRange) → Upto θ w j rs → Gains rs j first rs₁ → Gains rs₁ j second rs₂ → Upto θ w (j + 1) rs₂
-  upto_more rs rs₁ rs₂ u g₁ g₂ k = (
-    (λ h. ⊎_elim
-        (λ h₁. ⊎_elim (λ h₀. let b = (u k).0 h₀ in (omega (arith, b.0), b.1)) (run_key first (λ v a. inl a) k) ((g₁.1 k).0 h₁))
-        (run_key second (λ v a. inr a) k)
-        ((g₂.1 k).0 h)),
-    (λ b wanted. ⊎_elim
-        (λ l. (g₂.1 k).1 (inl ((g₁.1 k).1 (inl ((u k).1 l wanted)))))
-        (λ l.
-        let t = wanted_split θ w k s.valid wanted in
-        let fit = s.valid.grid t.0 t.2.0 in
-        let at : t.0 ≡ j = omega (arith, t.2.1.1, t.4) in
-        let r = subst (λ i. InRuns θ w i t.1) at (t.2, t.3) in
-        let e : k ≡ key_at j t.1 = omega (arith, t.4) in
-        ⊎_elim
-        (λ a. (g₂.1 k).1 (inl ((g₁.1 k).1 (inr (t.1, a, e)))))
-        (λ a. (g₂.1 k).1 (inr (t.1, a, e)))
-        (run_either t.1 r))
-        (cases_lt k (65536 * j))),
-  )
-
--- a window is valid, and has few places
-pub window_valid : (w : Window) → Valid (intervals_of w) × (length (intervals_of w) ≤ 16)
-window_valid w = (record { some = w.some; uncrossed = w.uncrossed; grid = w.grid }, omega (arith, length-take w.len w.intervals, w.few))
-
--- every plan keeps the rule
-rule_of : (p : Plan) → Rule (ranges_of p)
-rule_of p = record { few = omega (arith, length-take p.len p.ranges, p.few); places = p.places; rising = p.rising }
+  pub upto_more : (rs rs₁ rs₂ : List KeyRange) → Upto θ w j rs → Gains rs j first rs₁ → Gains rs₁ j second rs₂ → Rule rs₂ → Upto θ w (j + 1) rs₂
+  upto_more rs rs₁ rs₂ u g₁ g₂ rule = record {
+    few = omega (arith, u.few, g₁.few, g₂.few);
+    rule = rule;
+    keys = λ k. (
+      (λ h. ⊎_elim
+          (λ h₁. ⊎_elim (λ h₀. let b = (u.keys k).0 h₀ in (omega (arith, b.0), b.1)) (run_key first (λ v a. inl a) k) ((g₁.keys k).0 h₁))
+          (run_key second (λ v a. inr a) k)
+          ((g₂.keys k).0 h)),
+      (λ b. ⊎_elim
+          (λ l. (g₂.keys k).1 (inl ((g₁.keys k).1 (inl ((u.keys k).1 (l, b.1))))))
+          (λ l.
+          let t = wanted_split θ w k s.valid b.1 in
+          let fit = s.valid.grid t.0 t.2.0 in
+          let at : t.0 ≡ j = omega (arith, t.2.1.1, t.4, b.0) in
+          let r = subst (λ i. InRuns θ w i t.1) at (t.2, t.3) in
+          let e : k ≡ key_at j t.1 = omega (arith, t.4) in
+          ⊎_elim
+          (λ a. (g₂.keys k).1 (inl ((g₁.keys k).1 (inr (t.1, a, e)))))
+          (λ a. (g₂.keys k).1 (inr (t.1, a, e)))
+          (run_either t.1 r))
+          (cases_lt k (65536 * j))),
+    );
+  }
 
 -- ranges that have the wanted keys and no others are tight
 pub tight_of : (θ : ℤ) (w : List Interval) (rs : List KeyRange) → Covers θ w rs → Tight θ w rs
@@ -92,10 +83,10 @@ tight_of θ w rs c k ss h miss =
     (x.0, x.1, x.2, λ p. miss (subst (λ m. Planned ss m) x.3 p))
 
 -- the plan of all places
-pub upto_all : (θ : ℤ) (w : List Interval) (j : ℕ) (p : Plan) → Valid w → length w ≤ j → Upto θ w j (ranges_of p) → IsPlan θ w (ranges_of p)
-upto_all θ w j p ok n u =
-    let c : Covers θ w (ranges_of p) = λ k. (
-      (λ h. ((u k).0 h).1),
-      (λ h. let s = wanted_split θ w k ok h in (u k).1 (omega (arith, s.2.0, s.2.1.1, ok.grid s.0 s.2.0, s.4)) h),
+pub upto_all : (θ : ℤ) (w : List Interval) (j : ℕ) (rs : List KeyRange) → Valid w → length w ≤ j → Upto θ w j rs → IsPlan θ w rs
+upto_all θ w j rs ok n u =
+    let c : Covers θ w rs = λ k. (
+      (λ h. ((u.keys k).0 h).1),
+      (λ h. let s = wanted_split θ w k ok h in (u.keys k).1 (omega (arith, s.2.0, s.2.1.1, ok.grid s.0 s.2.0, s.4), h)),
     ) in
-    record { rule = rule_of p; covers = c; tight = tight_of θ w (ranges_of p) c }
+    record { rule = u.rule; covers = c; tight = tight_of θ w rs c }

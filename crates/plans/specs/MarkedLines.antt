@@ -1,8 +1,8 @@
 -- Twelve lines that the rules mark: the eight keys, and four plans.
 use Rattle.std.specs.Prelude.{ℕ, [], ◌∷◌, pos}
 use Rattle.grid.specs.MarkedKeys.{MarkedKeys}
-use Rattle.windows.specs.declared.intervals.Interval.{Interval}
-use Rattle.plans.specs.declared.plan.KeyRange.{KeyRange}
+use Rattle.windows.specs.Intervals.{Interval}
+use Rattle.plans.specs.Ranges.{KeyRange}
 use Rattle.plans.specs.Planning.{IsPlan}
 
 -- the interval from a to b

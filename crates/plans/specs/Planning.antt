@@ -1,26 +1,19 @@
 -- What it is for ranges to be the plan of a window.
-use Rattle.std.specs.Prelude.{◌≡◌, ℕ, ◌+◌, ◌<◌, ◌≤◌, ◌⊎◌, List, length, take, ℤ, Option}
+use Rattle.std.specs.Prelude.{◌≡◌, ℕ, ◌+◌, ◌<◌, ◌≤◌, ◌⊎◌, ◌↔◌, List, length, ℤ, Option}
 use Rattle.grid.specs.Vectors.{OnGrid}
 use Rattle.grid.specs.Keys.{key_at, key_of}
-use Rattle.windows.specs.declared.intervals.Interval.{Interval}
-use Rattle.windows.specs.Intervals.{Inside}
+use Rattle.windows.specs.Intervals.{Interval, Inside}
 use Rattle.windows.specs.Wanted.{Wanted}
 use Rattle.windows.specs.Finding.{Holds}
-use Rattle.plans.specs.declared.plan.KeyRange.{KeyRange}
-use Rattle.plans.specs.declared.plan.Plan.{Plan}
-use Rattle.plans.specs.Ranges.{Planned, Rule}
-
--- the ranges of a plan
-abbrev pub ranges_of : Plan → List KeyRange
-ranges_of p = take p.len p.ranges
+use Rattle.plans.specs.Ranges.{KeyRange, Planned, Rule}
 
 -- the ranges have the wanted keys and no others
 abbrev pub Covers : ℤ → List Interval → List KeyRange → Type 0
-Covers θ w rs = (k : ℕ) → (Planned rs k → Wanted θ w k) × (Wanted θ w k → Planned rs k)
+Covers θ w rs = (k : ℕ) → Planned rs k ↔ Wanted θ w k
 
 -- whoever strikes a key k from the ranges takes away the key of some vector inside
 abbrev pub Tight : ℤ → List Interval → List KeyRange → Type 0
-Tight θ w rs = (k : ℕ) (ss : List KeyRange) → Planned rs k → (Planned ss k → ⊥) → (x : List ℕ) × OnGrid x × Inside w x × (Planned ss (key_of θ x) → ⊥)
+Tight θ w rs = (k : ℕ) (ss : List KeyRange) → Planned rs k → ¬ Planned ss k → (x : List ℕ) × OnGrid x × Inside w x × ¬ Planned ss (key_of θ x)
 
 -- the ranges are the plan of a window under the knob θ
 pub record IsPlan (θ : ℤ) (w : List Interval) (rs : List KeyRange) : Type 0 where
@@ -43,6 +36,6 @@ abbrev pub RunKey : ℕ → Option (ℕ × ℕ) → ℕ → Type 0
 RunKey j run k = (v : ℕ) × Holds run v × (k ≡ key_at j v)
 
 -- ranges have gained the keys of a run at place j
-abbrev pub Gains : List KeyRange → ℕ → Option (ℕ × ℕ) → List KeyRange → Type 0
-Gains rs j run rs' = (length rs' ≤ length rs + 1)
-    × ((k : ℕ) → (Planned rs' k → Planned rs k ⊎ RunKey j run k) × (Planned rs k ⊎ RunKey j run k → Planned rs' k))
+pub record Gains (rs : List KeyRange) (j : ℕ) (run : Option (ℕ × ℕ)) (rs' : List KeyRange) : Type 0 where
+  pub few : length rs' ≤ length rs + 1
+  pub keys : (k : ℕ) → Planned rs' k ↔ (Planned rs k ⊎ RunKey j run k)

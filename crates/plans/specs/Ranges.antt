@@ -1,7 +1,10 @@
 -- Lists of key ranges: what they plan, and the rule of a plan.
-use Rattle.std.specs.Prelude.{◌≡◌, ℕ, ◌+◌, ◌<◌, ◌≤◌, List, length, slice_index_or}
+use Rattle.std.specs.Prelude.{◌≡◌, ℕ, ◌+◌, ◌<◌, ◌≤◌, List, length, All, Any, slice_index_or}
 use Rattle.grid.specs.Keys.{key_place}
-use Rattle.plans.specs.declared.plan.KeyRange.{KeyRange}
+use Rattle.windows.specs.declared.spans.Span.{Span}
+
+abbrev pub KeyRange : Type 0
+KeyRange = Span ℕ
 
 abbrev pub range_at : List KeyRange → ℕ → KeyRange
 range_at rs i = slice_index_or rs i (record { low = 0; high = 0 })
@@ -12,7 +15,7 @@ Has r k = (r.low ≤ k) × (k ≤ r.high)
 
 -- one of the ranges has the key
 abbrev pub Planned : List KeyRange → ℕ → Type 0
-Planned rs k = (i : ℕ) × (i < length rs) × Has (range_at rs i) k
+Planned rs k = Any (λ r. Has r k) rs
 
 -- key l comes after key k and, in the same place, does not touch it
 abbrev pub Apart : ℕ → ℕ → Type 0
@@ -22,9 +25,6 @@ Apart k l = (k < l) × (key_place k ≡ key_place l → k + 1 < l)
 abbrev pub OnePlace : KeyRange → Type 0
 OnePlace r = (r.low ≤ r.high) × (key_place r.low ≡ key_place r.high)
 
-abbrev pub EachOnePlace : List KeyRange → Type 0
-EachOnePlace rs = (i : ℕ) → i < length rs → OnePlace (range_at rs i)
-
 -- the ranges rise, and within one place neither overlap nor touch
 abbrev pub Rising : List KeyRange → Type 0
 Rising rs = (i : ℕ) → i + 1 < length rs → Apart (range_at rs i).high (range_at rs (i + 1)).low
@@ -32,5 +32,5 @@ Rising rs = (i : ℕ) → i + 1 < length rs → Apart (range_at rs i).high (rang
 -- the rule of a plan
 pub record Rule (rs : List KeyRange) : Type 0 where
   pub few : length rs ≤ 32
-  pub places : EachOnePlace rs
+  pub places : All OnePlace rs
   pub rising : Rising rs

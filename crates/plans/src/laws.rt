@@ -8,6 +8,7 @@ pub fn plans_agree()
 {}
 
 // The eight keys and the four plans that the rules mark.
+#[tactic(auto, using(crate::proofs::Marked::marked))]
 pub fn marked_lines()
     ensures { MarkedLines }
 {}

@@ -1,40 +1,44 @@
 // Plans: rising lists of key ranges.
-ghost use Rattle.std.specs.Prelude.{◌≡◌, ℕ, ◌<◌, ◌≤◌, [], ◌∷◌, ◌++◌, length, take, Decides};
-ghost use Rattle.plans.specs.Ranges.{Has, Planned, Apart, OnePlace, EachOnePlace, Rising};
+ghost use Rattle.std.specs.Prelude.{◌≡◌, ℕ, ◌<◌, ◌↔◌, [], ◌∷◌, ◌++◌, length, IsTrue};
+ghost use Rattle.plans.specs.Ranges.{Planned, Apart, OnePlace, Rule};
+
+use std::marker::Model;
+use windows::spans::Span;
 
 const MOST_RANGES: usize = 32;
 
 // A range of keys, both ends included.
-#[derive(Clone, Copy)]
-pub struct KeyRange {
-    pub low: u32,
-    pub high: u32,
-}
+pub type KeyRange = Span<u32>;
 
-impl KeyRange {
-    // Whether a key lies in the range.
-    pub fn has(self, key: u32) -> bool
-        ensures { Decides result (Has self key) }
-    {
-        self.low <= key && key <= self.high
-    }
-}
-
-// A plan: the first `len` of its ranges.
-#[derive(Clone, Copy)]
+// A plan: the first `len` of its ranges. They stand in an array, since a plan is copied and an `ArrayVec` is not.
+#[derive(Clone, Copy, Debug, PartialEq, Eq)]
 pub struct Plan {
     ranges: [KeyRange; MOST_RANGES],
     len: usize,
-    ghost long: { length ranges ≡ 32 },
-    ghost few: { len ≤ 32 },
-    ghost places: { EachOnePlace (take len ranges) },
-    ghost rising: { Rising (take len ranges) },
+}
+
+impl Model for Plan {
+    ghost use Rattle.std.specs.Prelude.{List};
+    ghost use Rattle.std.proofs.Common.{sym};
+    ghost use Rattle.plans.specs.Ranges.{KeyRange};
+
+    ghost Value = { List KeyRange };
+
+    ghost use Rattle.plans.specs.Plan.{ranges_of, fields_of, IsHeld};
+
+    ghost view = { ranges_of };
+
+    ghost invariant = { IsHeld };
+
+    ghost inverse = { fields_of };
+
+    ghost inverse_ok = { λ a h i. record { ranges = sym h.cells i; len = sym h.len i } };
 }
 
 impl Plan {
     // The plan of no keys.
     pub fn new() -> Plan
-        ensures { take result.len result.ranges ≡ [] }
+        ensures { result ≡ [] }
     {
         Plan {
             ranges: [KeyRange { low: 0, high: 0 }; MOST_RANGES],
@@ -43,11 +47,13 @@ impl Plan {
     }
 
     // Puts a range behind those of the plan.
+    #[tactic(auto, using(crate::proofs::Ranges::rule_push, crate::proofs::Cells::held_push))]
     pub(crate) fn push(&mut self, range: KeyRange)
-        requires room { self.old.len < 32 }
+        requires room { length self.old < 32 }
         requires place { OnePlace range }
-        requires apart { (k : ℕ) → Planned (take self.old.len self.old.ranges) k → Apart k range.low }
-        ensures { take self.new.len self.new.ranges ≡ take self.old.len self.old.ranges ++ range ∷ [] }
+        requires apart { (k : ℕ) → Planned self.old k → Apart k range.low }
+        ensures pushed { self.new ≡ self.old ++ range ∷ [] }
+        ensures rule { Rule self.new }
     {
         self.ranges[self.len] = range;
         self.len += 1;
@@ -55,20 +61,16 @@ impl Plan {
 
     // The ranges, in order.
     pub fn ranges(&self) -> &[KeyRange]
-        ensures { result.now ≡ take self.now.len self.now.ranges }
+        ensures all { result.now ≡ self.now }
+        ensures rule { Rule self.now }
     {
-        &self.ranges[0..self.len]
+        &self.ranges[..self.len]
     }
 
     // Whether one of the ranges has the key.
     pub fn is_planned(&self, key: u32) -> bool
-        ensures { Decides result (Planned (take self.now.len self.now.ranges) key) }
+        ensures { IsTrue result ↔ Planned self.now key }
     {
-        for range in self.ranges() {
-            if range.has(key) {
-                return true;
-            }
-        }
-        false
+        self.ranges().iter().any(|range| range.has(key))
     }
 }

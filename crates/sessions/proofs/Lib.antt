@@ -1,4 +1,3 @@
 -- The lemmas of `sessions`.
 mod Counting
-mod Lines
 pub mod Answering

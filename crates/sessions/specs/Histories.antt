@@ -1,5 +1,5 @@
 -- A whole session: the answers to its lines, and what the counts at its end say of them.
-use Rattle.std.specs.Prelude.{◌≡◌, ℕ, ◌+◌, ◌<◌, min, Bool, false, cond, ◌&&◌, List, [], ◌∷◌, ◌++◌, length, take, Some, None, Ok, Err, Option, Result, ◌==◌}
+use Rattle.std.specs.Prelude.{◌≡◌, ℕ, ◌<◌, min, Bool, false, ◌&&◌, List, [], ◌∷◌, ◌++◌, length, take, count_by, Some, None, Ok, Err, Option, Result, ◌==◌}
 use Rattle.fault.specs.declared.LineFault.{LineFault}
 use Rattle.grid.specs.declared.parts.Edge.{Edge}
 use Rattle.sessions.specs.declared.study.Study.{Study}
@@ -21,13 +21,12 @@ names j e (Err f) = false
 
 -- how many of the answers do
 abbrev pub naming : ℕ → Edge → List (Result Answer LineFault) → ℕ
-naming j e [] = 0
-naming j e (r ∷ rs) = cond (names j e r) 1 0 + naming j e rs
+naming j e rs = count_by (names j e) rs
 
 -- the counts of a study, if there is one, are those of the answers
 abbrev pub CountsAnswers : Option Study → List (Result Answer LineFault) → Type 0
 CountsAnswers None rs = Unit {0}
-CountsAnswers (Some s) rs = (j : ℕ) (e : Edge) → j < 16 → count_at s.tally.counts j e ≡ naming j e rs
+CountsAnswers (Some s) rs = (j : ℕ) (e : Edge) → j < 16 → count_at s.tally j e ≡ naming j e rs
 
 -- the session has taken the lines ls, of which only the first million count
 abbrev pub Taken : Option Study → ℕ → List (List ℕ) → Type 0

@@ -18,7 +18,7 @@ use Rattle.sessions.specs.Commands.{OpeningLine, VectorOf, VectorFault}
 pub record Fresh (d : ℕ) (θ : ℤ) (s : Study) : Type 0 where
   pub places : s.setting.places ≡ d
   pub theta : s.setting.theta ≡ θ
-  pub tally : Tallied θ [] s.tally.counts
+  pub tally : Tallied θ [] s.tally
 
 -- what an opening line does
 abbrev pub OpenLine : List ℕ → Result Study LineFault → Type 0
@@ -30,7 +30,7 @@ OpenLine line (Err (Call (Order o))) = ⊥
 -- a study has gained the vector v
 pub record Gains (v : List ℕ) (s s' : Study) : Type 0 where
   pub setting : s'.setting ≡ s.setting
-  pub tally : (vs : List (List ℕ)) → length vs < 2 ^ 64 - 1 → Tallied s.setting.theta vs s.tally.counts → Tallied s.setting.theta (vs ++ v ∷ []) s'.tally.counts
+  pub tally : (vs : List (List ℕ)) → length vs < 2 ^ 64 - 1 → Tallied s.setting.theta vs s.tally → Tallied s.setting.theta (vs ++ v ∷ []) s'.tally
 
 -- what a vector line does
 abbrev pub ExplainLine : List ℕ → Study → Study → Result KeyParts LineFault → Type 0

@@ -1,23 +1,24 @@
 // The lines that the explain program reads.
 ghost use Rattle.std.specs.Prelude.{◌≡◌, ◌≤◌, length};
-ghost use Rattle.text.specs.Fields.{left};
 ghost use Rattle.sessions.specs.Commands.{OpeningLine, line_fault, Near, ReadMeasures, VectorLine};
 
 use fault::TextFault;
-use text::fields::{FieldsFault, read_numbers};
+use text::fields::{Fields, FieldsFault, read_numbers};
 use text::heads::read_head;
 use text::numbers::NumberFault;
 use text::openings::read_opening;
 
 const FIRST_FIELD: usize = 2;
 
+// Each line is read by a match on its letter, which further letters join.
+
 // The number of places and the knob of an opening line.
 pub fn read_opening_line(line: &[u8]) -> Result<(usize, i32), TextFault>
     ensures { OpeningLine line.now result }
 {
-    let (letter, rest) = read_head(line)?;
+    let (letter, fields) = read_head(line)?;
     match letter {
-        'D' => read_opening(rest),
+        'D' => read_opening(fields),
         _ => Err(TextFault::Letter),
     }
 }
@@ -35,23 +36,20 @@ fn fault_of(fault: FieldsFault) -> TextFault
 }
 
 // Writes the measures in the fields after the letter, one to a place.
-fn read_measures(rest: Option<&[u8]>, measures: &mut [u16]) -> Result<(), TextFault>
-    requires { length (left rest) ≤ 256 }
-    ensures { ReadMeasures (left rest.entry) measures.old measures.new result }
+fn read_measures(fields: Fields<'_>, measures: &mut [u16]) -> Result<(), TextFault>
+    requires { length fields ≤ 256 }
+    ensures { ReadMeasures fields.entry measures.old measures.new result }
 {
-    match read_numbers(rest, measures) {
-        Ok(()) => Ok(()),
-        Err(fault) => Err(fault_of(fault)),
-    }
+    read_numbers(fields, measures).map_err(fault_of)
 }
 
 // Writes the measures of a vector line, one to a place.
 pub fn read_vector_line(line: &[u8], measures: &mut [u16]) -> Result<(), TextFault>
     ensures { VectorLine line.now measures.old measures.new result }
 {
-    let (letter, rest) = read_head(line)?;
+    let (letter, fields) = read_head(line)?;
     match letter {
-        'V' => read_measures(rest, measures),
+        'V' => read_measures(fields, measures),
         _ => Err(TextFault::Letter),
     }
 }

@@ -1,27 +1,30 @@
 // A setting, and the vectors that were explained under it.
-ghost use Rattle.std.specs.Prelude.{◌≡◌, ℕ, ◌-◌, ◌^◌, ◌<◌, false, List, [], length, is_ok};
+ghost use Rattle.std.specs.Prelude.{◌≡◌, [], length, OnOk, OnErr};
 ghost use Rattle.fault.specs.Checks.{Answers};
 ghost use Rattle.fault.specs.Numbers.{window_number};
 ghost use Rattle.grid.specs.Keys.{vector_checks};
 ghost use Rattle.grid.specs.Parts.{PartsOf};
-ghost use Rattle.sessions.specs.Tallies.{Tallied, explained};
+ghost use Rattle.sessions.specs.Tallies.{Tallied};
 
 use crate::tally::{Counts, Tally};
 use fault::WindowFault;
 use grid::parts::KeyParts;
 use grid::settings::Setting;
 
-#[derive(Clone, Copy)]
+// Clauses name both fields, since a caller gets each of them whole.
+#[derive(Clone, Copy, Debug, PartialEq, Eq)]
 pub struct Study {
     setting: Setting,
     tally: Tally,
 }
 
 impl Study {
+    ghost use Rattle.sessions.specs.Sessions.{Gains};
+
     // The study of no vectors yet.
     pub fn new(setting: Setting) -> Study
         ensures keeps { result.setting ≡ setting }
-        ensures tallies { Tallied setting.theta [] result.tally.counts }
+        ensures tallies { Tallied setting.theta [] result.tally }
     {
         Study {
             setting,
@@ -39,9 +42,8 @@ impl Study {
     pub fn explain(&mut self, vector: &[u16]) -> Result<KeyParts, WindowFault>
         ensures answers { Answers window_number (vector_checks self.old.setting.places vector.now) (λ p. PartsOf self.old.setting.theta vector.now p) result }
         ensures keeps { self.new.setting ≡ self.old.setting }
-        ensures stays { is_ok result ≡ false → self.new ≡ self.old }
-        ensures tallies { (vs : List (List ℕ)) → length vs < 2 ^ 64 - 1 → Tallied self.old.setting.theta vs self.old.tally.counts
-            → Tallied self.old.setting.theta (explained self.old.setting.places vs vector.now) self.new.tally.counts }
+        ensures stays { OnErr result (self.new ≡ self.old) }
+        ensures gains { OnOk result (Gains vector.now self.old self.new) }
     {
         let parts = self.setting.key_parts(vector)?;
         self.tally.note(parts);
@@ -50,7 +52,8 @@ impl Study {
 
     // How many of the explained vectors stand on the edges of each place.
     pub fn counts(&self) -> &[Counts]
-        ensures { result.now ≡ self.now.tally.counts }
+        ensures value { result.now ≡ self.now.tally }
+        ensures places { length self.now.tally ≡ 16 }
     {
         self.tally.counts()
     }

@@ -1,10 +1,18 @@
 -- Digits with no leading zero are what `spelled` gives of their value.
-use Rattle.std.proofs.Common.{◌≡◌, ℕ, zero, suc, ◌+◌, ◌-◌, ◌*◌, ◌/◌, ◌%◌, ◌<◌, ◌≤◌, cond, List, [], ◌∷◌, ◌++◌, map, length, get_or, take, drop, sym, refl, ap, ◌∙◌, subst, append_assoc, append-nil, arith, ne_eqb}
+use Rattle.std.proofs.Common.{rules, ◌≡◌, ℕ, zero, suc, ◌+◌, ◌-◌, ◌*◌, ◌/◌, ◌%◌, ◌^◌, ◌<◌, ◌≤◌, cond, List, [], ◌∷◌, ◌++◌, map, length, Ok, Err, Result, sym, refl, ap, ◌∙◌, subst, append_assoc, append-nil, arith, ne_eqb, ◌≢◌}
 use lib.ListN.{length-map}
 use Rattle.std.proofs.lemmas.Int.Digits.{digits_of_step, all_below_base_digits_of, first_digits_of, number_digits_of, length-digits_of_step}
-use Rattle.std.proofs.lemmas.List.{map_push, get_or-map, take_more, take-append-drop, take_all}
+use Rattle.std.proofs.lemmas.List.{map_push, get_or-map}
+use Rattle.std.proofs.lemmas.List.Elements.{All-from_recursion, All-weaker, All-map, All-nil, All-cons, All-head, All-tail}
+use Rattle.std.proofs.lemmas.Str.{IsUtf8-from_ascii}
+use Rattle.std.proofs.lemmas.Str.Ascii.{IsAscii-from_all}
+use Rattle.std.proofs.lemmas.Str.Parse.{numerals_by_fold, tells_by_index, parse_digits}
+use Rattle.std.specs.Char.{IsAsciiDigit}
 use Rattle.std.specs.Int.Digits.{digits_of, number_from_digits_after}
-use Rattle.std.specs.List.{AllByRecursion}
+use Rattle.std.specs.List.{All}
+use Rattle.std.specs.Result.{OkIff}
+use Rattle.std.specs.Str.{IsUtf8}
+use Rattle.std.specs.Str.Parse.{ParsesUnsigned}
 use Rattle.text.specs.Spelling.{spelled, Plain}
 
 -- the number that the bytes write, after those of n
@@ -20,14 +28,14 @@ in_digits_step : (n : ℕ) → 0 < n → in_digits n ≡ in_digits (n / 10) ++ (
 in_digits_step n h = ap (map (λ d. 48 + d)) (digits_of_step 10 n (omega arith) h) ∙ map_push (λ d. 48 + d) (digits_of 10 (n / 10)) (n % 10)
 
 -- digits read after a number go behind its own
-digits_after : (n : ℕ) (ds : List ℕ) → 0 < n → ((i : ℕ) → i < length ds → (48 ≤ get_or ds i 0) × (get_or ds i 0 ≤ 57)) → in_digits (read n ds) ≡ in_digits n ++ ds
-digits_after n [] some d = sym (append-nil (in_digits n))
-digits_after n (c ∷ cs) some d =
+digits_after : (n : ℕ) (ds : List ℕ) → 0 < n → All IsAsciiDigit ds → in_digits (read n ds) ≡ in_digits n ++ ds
+digits_after n [] some digits = sym (append-nil (in_digits n))
+digits_after n (c ∷ cs) some digits =
     let m : ℕ = n * 10 + (c - 48) in
-    let k : (48 ≤ c) × (c ≤ 57) = d 0 (omega arith) in
+    let digit : (48 ≤ c) × (c ≤ 57) = All-head IsAsciiDigit c cs digits in
     let front : m / 10 ≡ n = omega arith in
     let end : 48 + m % 10 ≡ c = omega arith in
-    digits_after m cs (omega arith) (λ i l. d (suc i) (omega arith))
+    digits_after m cs (omega arith) (All-tail IsAsciiDigit c cs digits)
     ∙ ap (λ x. x ++ cs) (in_digits_step m (omega arith) ∙ (λ i. in_digits (front i) ++ (end i ∷ [])))
     ∙ append_assoc (in_digits n) (c ∷ []) cs
 
@@ -39,37 +47,29 @@ spelled_some : (n : ℕ) → 0 < n → spelled n ≡ in_digits n
 unfolding spelled
 spelled_some n h = ap (λ t. cond t (48 ∷ []) (in_digits n)) (ne_eqb n 0 (λ e. omega arith))
 
+-- digits after one that is no 0 are the spelling of their value
+spelled_read : (c n : ℕ) (cs : List ℕ) → n < 10 → c ≡ 48 + n → 0 < n → All IsAsciiDigit cs → spelled (read n cs) ≡ c ∷ cs
+spelled_read c n cs few is some digits =
+    let none : n / 10 ≡ 0 = omega arith in
+    let one : 48 + n % 10 ≡ c = omega arith in
+    spelled_some (read n cs) (omega (arith, read_ge n cs))
+    ∙ digits_after n cs some digits
+    ∙ ap (λ x. x ++ cs) (in_digits_step n some ∙ (λ i. in_digits (none i) ++ (one i ∷ [])))
+
+spelled_digits : (c n : ℕ) (cs : List ℕ) → n < 10 → c ≡ 48 + n → (0 < length cs → c ≢ 48) → All IsAsciiDigit cs → c ∷ cs ≡ spelled (read n cs)
+unfolding spelled
+spelled_digits c zero [] few is front digits = ap (λ b. b ∷ []) is
+spelled_digits c zero (e ∷ cs) few is front digits = absurd (front (omega arith) is)
+spelled_digits c (suc n) cs few is front digits = sym (spelled_read c (suc n) cs few is (omega arith) digits)
+
 -- plain digits are the spelling of the number that they write
 pub plain_spelled : (f : List ℕ) → Plain f → f ≡ spelled (read 0 f)
-unfolding spelled
 plain_spelled [] p = absurd (omega (arith, p.some))
-plain_spelled (c ∷ []) p =
-    let k : (48 ≤ c) × (c ≤ 57) = p.digits 0 (omega arith) in
-    let G : ℕ → Type 0 = λ m. (48 + m) ∷ [] ≡ spelled m in
-    let go : (m : ℕ) → m < 10 → G m = one in
-    let e : 48 + (0 * 10 + (c - 48)) ≡ c = omega arith in
-    ap (λ x. x ∷ []) (sym e) ∙ go (0 * 10 + (c - 48)) (omega arith)
-  where
-    one : (m : ℕ) → m < 10 → (48 + m) ∷ [] ≡ spelled m
-    one zero h = refl
-    one (suc m) h = let n : ℕ = suc m in
-        let z : n / 10 ≡ 0 = omega arith in
-        let w : n % 10 ≡ n = omega arith in
-        sym (spelled_some n (omega arith) ∙ in_digits_step n (omega arith) ∙ (λ i. in_digits (z i) ++ ((48 + w i) ∷ [])))
-plain_spelled (c ∷ (e ∷ cs)) p =
-    let k : (48 ≤ c) × (c ≤ 57) = p.digits 0 (omega arith) in
-    let no : c ≡ 48 → ⊥ = λ z. p.front (omega arith) z in
-    let n : ℕ = 0 * 10 + (c - 48) in
-    let big : 0 < n = grind arith in
-    let z : n / 10 ≡ 0 = omega arith in
-    let w : 48 + n % 10 ≡ c = omega arith in
-    let first : in_digits n ≡ c ∷ [] = in_digits_step n big ∙ (λ i. in_digits (z i) ++ (w i ∷ [])) in
-    sym (spelled_some (read n (e ∷ cs)) (omega (arith, read_ge n (e ∷ cs)))
-    ∙ digits_after n (e ∷ cs) big (λ i l. p.digits (suc i) (omega arith))
-    ∙ ap (λ x. x ++ (e ∷ cs)) first)
+plain_spelled (c ∷ cs) p =
+    let digit : (48 ≤ c) × (c ≤ 57) = All-head IsAsciiDigit c cs p.digits in
+    spelled_digits c (0 * 10 + (c - 48)) cs (omega arith) (omega arith) (λ some e. p.front (omega arith) e) (All-tail IsAsciiDigit c cs p.digits)
 
 -- and a spelling is plain digits that write the number
-
 read_map : (m : ℕ) (ds : List ℕ) → read m (map (λ d. 48 + d) ds) ≡ number_from_digits_after 10 m ds
 read_map m [] = refl
 read_map m (d ∷ ds) = let e : 48 + d - 48 ≡ d = omega arith in ap (λ x. read (m * 10 + x) (map (λ d. 48 + d) ds)) e ∙ read_map (m * 10 + d) ds
@@ -79,42 +79,37 @@ unfolding spelled
 read_spelled zero = refl
 read_spelled (suc m) = ap (read 0) (spelled_some (suc m) (omega arith)) ∙ read_map 0 (digits_of 10 (suc m)) ∙ number_digits_of 10 (suc m) (omega arith)
 
-all_at : (xs : List ℕ) → AllByRecursion (λ d. d < 10) xs → (i : ℕ) → i < length xs → get_or xs i 0 < 10
-all_at [] a i l = absurd (omega arith)
-all_at (x ∷ xs) a zero l = a.0
-all_at (x ∷ xs) a (suc i) l = all_at xs a.1 i (omega arith)
-
 pub spelled_plain : (n : ℕ) → Plain (spelled n)
 unfolding spelled
-spelled_plain zero = record { some = omega arith; digits = λ i l. zero_at i l; front = λ l e. omega arith }
-  where
-    zero_at : (i : ℕ) → i < 1 → (48 ≤ get_or (48 ∷ []) i 0) × (get_or (48 ∷ []) i 0 ≤ 57)
-    zero_at zero l = (omega arith, omega arith)
-    zero_at (suc i) l = absurd (omega arith)
+spelled_plain zero = record { some = omega arith; digits = All-cons IsAsciiDigit 48 [] (omega arith, omega arith) (All-nil IsAsciiDigit); front = λ l e. omega arith }
 spelled_plain (suc m) =
     let n : ℕ = suc m in
     let ds : List ℕ = digits_of 10 n in
-    let long : length (in_digits n) ≡ length ds = length-map ds (λ d. 48 + d) in
     let some : 0 < length ds = omega (arith, length-digits_of_step 10 n (omega arith) (omega arith)) in
-    let at : (i : ℕ) → i < length ds → get_or (in_digits n) i 0 ≡ 48 + get_or ds i 0 = λ i l. get_or-map (λ d. 48 + d) ds i 0 0 l in
+    let below : All (λ d. d < 10) ds = All-from_recursion (λ d. d < 10) ds (all_below_base_digits_of 10 n (omega arith)) in
     let p : Plain (in_digits n) = record {
-      some = omega arith;
-      digits = λ i l. let h : i < length ds = omega arith in (omega (arith, at i h, all_at ds (all_below_base_digits_of 10 n (omega arith)) i h), omega (arith, at i h, all_at ds (all_below_base_digits_of 10 n (omega arith)) i h));
-      front = λ l e. omega (arith, at 0 some, first_digits_of 10 n (omega arith) (omega arith));
+      some = omega (arith, length-map ds (λ d. 48 + d));
+      digits = All-map IsAsciiDigit (λ d. 48 + d) ds (All-weaker (λ d. d < 10) (λ d. IsAsciiDigit (48 + d)) (λ d h. (omega arith, omega arith)) ds below);
+      front = λ l e. omega (arith, get_or-map (λ d. 48 + d) ds 0 0 0 some, first_digits_of 10 n (omega arith) (omega arith));
     } in
     subst Plain (sym (spelled_some n (omega arith))) p
 
--- the turns of the reading
+-- what the library reads
+spelled_utf8 : (n : ℕ) → IsUtf8 (spelled n)
+spelled_utf8 n =
+    IsUtf8-from_ascii (spelled n) (IsAscii-from_all (spelled n) (All-weaker IsAsciiDigit (λ b. b < 128) (λ b h. omega (arith, h.1)) (spelled n) ((spelled_plain n).digits)))
 
-read_append : (n : ℕ) (xs ys : List ℕ) → read n (xs ++ ys) ≡ read (read n xs) ys
-read_append n [] ys = refl
-read_append n (x ∷ xs) ys = read_append (n * 10 + (x - 48)) xs ys
+pub not_spelled : (f : List ℕ) → ¬ (IsUtf8 f) → (n : ℕ) → f ≢ spelled n
+not_spelled f broken n e = broken (subst IsUtf8 (sym e) (spelled_utf8 n))
 
-pub read_more : (f : List ℕ) (i : ℕ) → i < length f → read 0 (take (i + 1) f) ≡ read 0 (take i f) * 10 + (get_or f i 0 - 48)
-read_more f i h = ap (read 0) (take_more f i 0 h) ∙ read_append 0 (take i f) (get_or f i 0 ∷ [])
+parsed : (f t : List ℕ) (r : Result ℕ (Unit {0})) → Plain f → t ≡ f → ParsesUnsigned 32 10 t r → OkIff r ((0 < length f) × (read 0 f < 2 ^ 32)) (read 0 f)
+parsed f t r p e h = parse_digits (numerals_by_fold _ tells_by_index read (search rules)) 32 f r (subst (λ v. ParsesUnsigned 32 10 v r) e h) (λ i. p.digits i 0)
 
-pub read_upto : (f : List ℕ) (i : ℕ) → read 0 (take i f) ≤ read 0 f
-read_upto f i = omega (arith, ap (read 0) (take-append-drop i f), read_append 0 (take i f) (drop i f), read_ge (read 0 (take i f)) (drop i f))
+pub parsed_ok : (f t : List ℕ) (n : ℕ) → Plain f → t ≡ f → ParsesUnsigned {E = Unit {0}} 32 10 t (Ok n) → f ≡ spelled n
+parsed_ok f t n p e h = plain_spelled f p ∙ ap spelled (sym (parsed f t (Ok n) p e h).1)
 
-pub read_all : (f : List ℕ) (i : ℕ) → length f ≤ i → read 0 (take i f) ≡ read 0 f
-read_all f i h = ap (read 0) (take_all i f h)
+pub parsed_err : (f t : List ℕ) → Plain f → t ≡ f → ParsesUnsigned 32 10 t (Err (tt {0})) → (n : ℕ) × (f ≡ spelled n) × (2 ^ 32 ≤ n)
+parsed_err f t p e h = (read 0 f, plain_spelled f p, large (λ l. parsed f t (Err (tt {0})) p e h (p.some, l)))
+  where
+    large : (read 0 f < 2 ^ 32 → ⊥) → 2 ^ 32 ≤ read 0 f
+    large few = omega arith

@@ -1,5 +1,4 @@
 -- The lemmas of `text`.
 mod Digits
 mod Signs
-mod Tabs
-pub mod Turns
+pub mod FieldLemmas

@@ -1,37 +1,25 @@
 -- The fields of a line: the line cut at its tabs.
-use Rattle.std.specs.Prelude.{◌≡◌, ℕ, ◌<◌, cond, List, [], ◌∷◌, ◌++◌, length, Some, None, Option, ◌==◌, ◌≢◌, slice_index}
+use Rattle.std.specs.Prelude.{◌≡◌, ℕ, ◌<◌, List, [], ◌∷◌, ◌++◌, length, Some, None, Option, All, ◌==◌, ◌≢◌}
 use Rattle.std.specs.Borrow.{Bor}
-use Rattle.std.specs.List.{AllByRecursion}
-
--- b in front of the first field
-abbrev pub onto : ℕ → List (List ℕ) → List (List ℕ)
-onto b [] = (b ∷ []) ∷ []
-onto b (f ∷ fs) = (b ∷ f) ∷ fs
+use Rattle.std.specs.List.{slice_split, join_with_byte}
 
 abbrev pub fields : List ℕ → List (List ℕ)
-fields [] = [] ∷ []
-fields (b ∷ bs) = cond (b == 9) ([] ∷ fields bs) (onto b (fields bs))
+fields line = slice_split (λ b. b == 9) line
 
 -- those of what is left of a line, if anything is
 abbrev pub left : Option (Bor (List ℕ)) → List (List ℕ)
 left None = []
-left (Some t) = fields t.now
+left (Some rest) = fields rest.now
 
 -- no byte is a tab
 abbrev pub Tabless : List ℕ → Type 0
-Tabless f = (i : ℕ) → i < length f → slice_index f i ≢ 9
-
--- fields with a tab between each two
-abbrev pub joined : List (List ℕ) → List ℕ
-joined [] = []
-joined (f ∷ []) = f
-joined (f ∷ (g ∷ gs)) = f ++ 9 ∷ joined (g ∷ gs)
+Tabless f = All (λ b. b ≢ 9) f
 
 -- joined by tabs the fields are the line, and none holds a tab
 pub record FieldsOf (line : List ℕ) (fs : List (List ℕ)) : Type 0 where
   pub some : 0 < length fs
-  pub whole : joined fs ≡ line
-  pub apart : AllByRecursion Tabless fs
+  pub whole : join_with_byte 9 fs ≡ line
+  pub apart : All Tabless fs
 
 -- that holds of the fields of every line
 abbrev pub FieldsJoin : Type 0

@@ -1,6 +1,5 @@
 -- What the reading of fields as numbers up to 65,535 answers and writes.
-use Rattle.std.specs.Prelude.{◌≡◌, ℕ, ◌<◌, ◌≤◌, List, [], map, length, take, drop, Ok, Err, Result, ◌≢◌, slice_index_or}
-use Rattle.std.specs.List.{AllByRecursion}
+use Rattle.std.specs.Prelude.{◌≡◌, ℕ, ◌<◌, ◌≤◌, List, [], map, length, take, drop, Ok, Err, Result, All, ◌≢◌, slice_index_or}
 use Rattle.text.specs.declared.numbers.NumberFault.{NumberFault}
 use Rattle.text.specs.declared.fields.FieldsFault.{FieldsFault}
 use Rattle.text.specs.declared.fields.FieldsFault.TheVariants.{Count, At}
@@ -9,7 +8,7 @@ use Rattle.text.specs.Spelling.{spelled, ReadNumber}
 -- the fields spell the numbers
 pub record Spells (fs : List (List ℕ)) (ns : List ℕ) : Type 0 where
   pub same : fs ≡ map spelled ns
-  pub small : AllByRecursion (λ n. n ≤ 65535) ns
+  pub small : All (λ n. n ≤ 65535) ns
 
 -- field i, from 0, is the first that is no number or too large; ns are the numbers before it
 pub record Faulty (fs : List (List ℕ)) (kind : NumberFault) (i : ℕ) (ns : List ℕ) : Type 0 where

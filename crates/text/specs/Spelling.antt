@@ -1,12 +1,14 @@
 -- How a field spells a number, and what the reading of one answers.
-use Rattle.std.specs.Prelude.{◌≡◌, ℕ, zero, suc, ◌+◌, ◌<◌, ◌≤◌, cond, List, [], ◌∷◌, map, length, ℤ, pos, negsuc, ◌≤ℤ◌, Ok, Err, Result, ◌==◌, ◌≢◌, slice_index}
+use Rattle.std.specs.Prelude.{◌≡◌, ℕ, zero, suc, ◌+◌, ◌<◌, ◌≤◌, if◌then◌else◌, List, [], ◌∷◌, map, length, ℤ, pos, negsuc, ◌≤ℤ◌, Some, None, Option, Ok, Err, Result, All, ◌==◌, ◌≢◌, slice_index}
+use Rattle.std.specs.Borrow.{Bor}
+use Rattle.std.specs.Char.{IsAsciiDigit}
 use Rattle.std.specs.Int.Digits.{digits_of}
 use Rattle.text.specs.declared.numbers.NumberFault.{NumberFault}
 use Rattle.text.specs.declared.numbers.NumberFault.TheVariants.{Digits, Size}
 
 -- the bytes of n in decimal, with no sign and no leading zero
 unfoldable pub spelled : ℕ → List ℕ
-spelled n = cond (n == 0) (48 ∷ []) (map (λ d. 48 + d) (digits_of 10 n))
+spelled n = if n == 0 then 48 ∷ [] else map (λ d. 48 + d) (digits_of 10 n)
 
 -- the same with a minus before a negative number
 abbrev pub signed : ℤ → List ℕ
@@ -23,12 +25,12 @@ ReadNumber m f (Err Size) = (n : ℕ) × (f ≡ spelled n) × (m < n)
 abbrev pub ReadSigned : ℤ → ℤ → List ℕ → Result ℤ NumberFault → Type 0
 ReadSigned l h f (Ok z) = (f ≡ signed z) × (l ≤ℤ z) × (z ≤ℤ h)
 ReadSigned l h f (Err Digits) = (z : ℤ) → f ≢ signed z
-ReadSigned l h f (Err Size) = (z : ℤ) × (f ≡ signed z) × ((l ≤ℤ z) × (z ≤ℤ h) → ⊥)
+ReadSigned l h f (Err Size) = (z : ℤ) × (f ≡ signed z) × ¬ ((l ≤ℤ z) × (z ≤ℤ h))
 
 -- some digits, and no 0 in front of others: the fields that spell a number
 pub record Plain (f : List ℕ) : Type 0 where
   pub some : 0 < length f
-  pub digits : (i : ℕ) → i < length f → (48 ≤ slice_index f i) × (slice_index f i ≤ 57)
+  pub digits : All IsAsciiDigit f
   pub front : 1 < length f → slice_index f 0 ≢ 48
 
 -- what a minus makes of the number after it
@@ -36,10 +38,7 @@ abbrev pub minus : ℕ → Result ℤ NumberFault
 minus zero = Err Digits
 minus (suc n) = Ok (negsuc n)
 
-abbrev pub negated : Result ℕ NumberFault → Result ℤ NumberFault
-negated (Ok n) = minus n
-negated (Err f) = Err f
-
-abbrev pub positive : Result ℕ NumberFault → Result ℤ NumberFault
-positive (Ok n) = Ok (pos n)
-positive (Err f) = Err f
+-- the field is a minus and what follows it; or it begins with none
+abbrev pub AfterMinus : List ℕ → Option (Bor (List ℕ)) → Type 0
+AfterMinus f None = (rest : List ℕ) → f ≢ 45 ∷ rest
+AfterMinus f (Some rest) = f ≡ 45 ∷ rest.now

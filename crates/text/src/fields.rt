@@ -1,12 +1,14 @@
 // The fields of a line, parted by tabs.
-ghost use Rattle.std.specs.Prelude.{◌≡◌, ◌<◌, length, Decides};
+ghost use Rattle.std.specs.Prelude.{◌≡◌, ◌↔◌, ◌==◌, length, count_by, IsTrue};
+ghost use Rattle.std.specs.Iterator.{YieldsFirstRef, item_count};
 ghost use Rattle.text.specs.Fields.{fields, left, FirstField, FieldsJoin};
 ghost use Rattle.text.specs.Reading.{ReadFields};
 
 use crate::numbers::{MOST, NumberFault, read_number};
+use std::marker::Model;
 
 // Why fields are not the numbers that are read.
-#[derive(Clone, Copy)]
+#[derive(Clone, Copy, Debug, PartialEq, Eq)]
 pub enum FieldsFault {
     // there are more or fewer than places
     Count,
@@ -15,7 +17,7 @@ pub enum FieldsFault {
 }
 
 fn is_tab(b: u8) -> bool
-    ensures { Decides result (b ≡ 9) }
+    ensures { result ≡ (b == 9) }
 {
     b == b'\t'
 }
@@ -24,58 +26,98 @@ fn is_tab(b: u8) -> bool
 pub fn first_field(line: &[u8]) -> (&[u8], Option<&[u8]>)
     ensures { FirstField line.now result.0.now result.1 }
 {
-    for (i, b) in line.iter().enumerate() {
-        if is_tab(*b) {
-            return (&line[0..i], Some(&line[i + 1..]));
-        }
+    match line.iter().position(|b| is_tab(*b)) {
+        Some(end) => (&line[..end], Some(&line[end + 1..])),
+        None => (line, None),
     }
-    (line, None)
+}
+
+fn tab_count(line: &[u8]) -> usize
+    ensures { result ≡ count_by (λ b. b == 9) line.now }
+{
+    line.iter().filter(|b| is_tab(**b)).count()
 }
 
 // Whether a line has this many fields.
+#[tactic(auto, using(crate::proofs::FieldLemmas::length_fields))]
 pub fn has_fields(line: &[u8], count: usize) -> bool
-    ensures { Decides result (length (fields line.now) ≡ count) }
+    ensures { IsTrue result ↔ (length (fields line.now) ≡ count) }
 {
-    let mut missing = count;
-    for b in line {
-        if is_tab(*b) {
-            if missing == 0 {
-                return false;
-            }
-            missing -= 1;
+    tab_count(line) + 1 == count
+}
+
+// The fields of a line that are left to be read.
+#[derive(Clone, Debug, Drop)]
+pub struct Fields<'a> {
+    // what is left of the line, if anything is
+    rest: Option<&'a [u8]>,
+}
+
+impl<'a> Model for Fields<'a> {
+    ghost use Rattle.std.specs.Prelude.{ℕ, List};
+    ghost use Rattle.text.specs.Fields.{left};
+
+    ghost Value = { List (List ℕ) };
+
+    ghost view = { λ s. left s.rest };
+}
+
+// Every field of a line.
+impl<'a> From<&'a [u8]> for Fields<'a> {
+    ghost from_gives = { λ line result. result ≡ fields line.now };
+
+    fn from(line: &'a [u8]) -> Self {
+        Fields { rest: Some(line) }
+    }
+}
+
+// The fields of what is left of a line, if anything is, for whoever cut the line by `first_field`.
+impl<'a> From<Option<&'a [u8]>> for Fields<'a> {
+    ghost from_gives = { λ rest result. result ≡ left rest };
+
+    fn from(rest: Option<&'a [u8]>) -> Self {
+        Fields { rest }
+    }
+}
+
+impl<'a> Fields<'a> {
+    // Whether this many fields are left.
+    pub fn has_count(&self, count: usize) -> bool
+        ensures { IsTrue result ↔ (length self.now ≡ count) }
+    {
+        match self.rest {
+            Some(line) => has_fields(line, count),
+            None => count == 0,
         }
     }
-    missing == 1
 }
 
-// Whether what is left of a line has this many fields: none, where nothing is left.
-fn fills(rest: Option<&[u8]>, count: usize) -> bool
-    ensures { Decides result (length (left rest.entry) ≡ count) }
-{
-    match rest {
-        Some(text) => has_fields(text, count),
-        None => count == 0,
+impl<'a> Iterator for Fields<'a> {
+    type Item = &'a [u8];
+
+    ghost next_gives = { YieldsFirstRef (λ s. s) };
+
+    ghost remaining = { item_count (λ s. s) };
+
+    #[tactic(auto, using(crate::proofs::FieldLemmas::fields_first))]
+    fn next(&mut self) -> Option<&'a [u8]> {
+        let (field, rest) = first_field(self.rest?);
+        self.rest = rest;
+        Some(field)
     }
 }
 
-// The numbers up to 65,535 that the fields of a part of a line spell, one to a place.
-pub fn read_numbers(rest: Option<&[u8]>, out: &mut [u16]) -> Result<(), FieldsFault>
-    ensures { ReadFields (left rest.entry) out.old out.new result }
+// The numbers up to 65,535 that the fields spell, one to a place.
+pub fn read_numbers(fields: Fields<'_>, out: &mut [u16]) -> Result<(), FieldsFault>
+    ensures { ReadFields fields.entry out.old out.new result }
 {
-    if !fills(rest, out.len()) {
+    if !fields.has_count(out.len()) {
         return Err(FieldsFault::Count);
     }
-    let mut after = rest;
-    for i in 0..out.len() {
-        let Some(text) = after else {
-            return Err(FieldsFault::Count);
-        };
-        let (field, more) = first_field(text);
-        match read_number(field, MOST) {
-            Ok(n) => out[i] = n as u16,
-            Err(kind) => return Err(FieldsFault::At(kind, i)),
-        }
-        after = more;
+    for (i, field) in fields.enumerate() {
+        let number = read_number(field, MOST).map_err(|kind| FieldsFault::At(kind, i))?;
+        // at most `MOST`, so the cast keeps it
+        out[i] = number as u16;
     }
     Ok(())
 }

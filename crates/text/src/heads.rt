@@ -1,21 +1,21 @@
 // The head of a line: a letter as its first field.
 ghost use Rattle.text.specs.Heads.{ReadHead};
 
-use crate::fields::first_field;
+use crate::fields::Fields;
 use fault::TextFault;
 
 const MOST_BYTES: usize = 255;
 
-// The letter that a line begins with, and what follows its tab if it has one.
-pub fn read_head(line: &[u8]) -> Result<(char, Option<&[u8]>), TextFault>
+// The letter that a line begins with, and the fields after it.
+pub fn read_head(line: &[u8]) -> Result<(char, Fields<'_>), TextFault>
     ensures { ReadHead line.now result }
 {
     if line.len() > MOST_BYTES {
         return Err(TextFault::Line);
     }
-    let (first, rest) = first_field(line);
-    if first.len() != 1 {
-        return Err(TextFault::Letter);
+    let mut fields = Fields::from(line);
+    match fields.next() {
+        Some([letter]) => Ok((char::from(*letter), fields)),
+        _ => Err(TextFault::Letter),
     }
-    Ok((char::from(first[0]), rest))
 }

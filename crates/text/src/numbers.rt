@@ -1,6 +1,9 @@
 // Numbers as a field spells them.
-ghost use Rattle.std.specs.Prelude.{◌≡◌, ◌<◌, ◌≤◌, length, pos, negsuc, IfOk, Decides, slice_index};
-ghost use Rattle.text.specs.Spelling.{Plain, ReadNumber, ReadSigned, negated, positive};
+ghost use Rattle.std.specs.Prelude.{◌≡◌, ◌↔◌, ◌≤◌, pos, negsuc, IsTrue};
+ghost use Rattle.text.specs.Spelling.{Plain, ReadNumber, ReadSigned, AfterMinus, minus};
+ghost use Rattle.text.specs.Openings.{field_fault};
+
+use fault::TextFault;
 
 // The greatest number that a field may hold.
 pub(crate) const MOST: u32 = 65_535;
@@ -8,7 +11,7 @@ pub(crate) const MOST: u32 = 65_535;
 const MOST_BELOW_ZERO: u32 = 65_536;
 
 // Why a field is not the number that is read.
-#[derive(Clone, Copy)]
+#[derive(Clone, Copy, Debug, PartialEq, Eq)]
 pub enum NumberFault {
     // it spells no number
     Digits,
@@ -16,71 +19,77 @@ pub enum NumberFault {
     Size,
 }
 
-// Whether the field is made of digits, with no leading zero.
-fn is_plain(field: &[u8]) -> bool
-    ensures { Decides result (Plain field.now) }
-{
-    for b in field {
-        if *b < b'0' || b'9' < *b {
-            return false;
+impl NumberFault {
+    // The fault of this field of a line, which has a fault of its own for a number outside the limits.
+    pub(crate) fn in_field(self, field: usize, outside: TextFault) -> TextFault
+        ensures { result ≡ field_fault field outside self }
+    {
+        match self {
+            NumberFault::Digits => TextFault::Digits(field),
+            NumberFault::Size => outside,
         }
     }
-    field.len() == 1 || (field.len() > 1 && field[0] != b'0')
+}
+
+// Whether the field is made of digits, with no leading zero.
+fn is_plain(field: &[u8]) -> bool
+    ensures { IsTrue result ↔ Plain field.now }
+{
+    match field {
+        [] | [b'0', _, ..] => false,
+        _ => field.iter().all(u8::is_ascii_digit),
+    }
 }
 
 // A number from 0 to `most`.
+#[tactic(auto, using(crate::proofs::Digits::spelled_plain, crate::proofs::Digits::not_spelled, crate::proofs::Digits::parsed_ok, crate::proofs::Digits::parsed_err))]
 pub fn read_number(field: &[u8], most: u32) -> Result<u32, NumberFault>
     ensures { ReadNumber most field.now result }
 {
+    // not by `map_err` and `?`, whose proof stayed open
+    let Ok(text) = str::from_utf8(field) else {
+        return Err(NumberFault::Digits);
+    };
+    // The library would take a plus and zeros in front too.
     if !is_plain(field) {
         return Err(NumberFault::Digits);
     }
-    let limit = u64::from(most);
-    let mut n = 0u64;
-    for b in field {
-        n = n * 10 + u64::from(*b - b'0');
-        if n > limit {
-            return Err(NumberFault::Size);
-        }
-    }
-    Ok(n as u32)
-}
-
-fn has_minus(field: &[u8]) -> bool
-    ensures { Decides result ((0 < length field.now) × (slice_index field.now 0 ≡ 45)) }
-{
-    field.len() > 0 && field[0] == b'-'
-}
-
-// What a minus makes of the number after it.
-fn below_zero(read: Result<u32, NumberFault>) -> Result<i32, NumberFault>
-    requires { IfOk read (λ n. n ≤ 65536) }
-    ensures { result ≡ negated read }
-{
-    match read {
-        Ok(0) => Err(NumberFault::Digits),
-        Ok(n) => Ok(-(n as i32)),
-        Err(fault) => Err(fault),
+    match text.parse::<u32>() {
+        Ok(number) if number <= most => Ok(number),
+        _ => Err(NumberFault::Size),
     }
 }
 
-fn from_zero(read: Result<u32, NumberFault>) -> Result<i32, NumberFault>
-    requires { IfOk read (λ n. n ≤ 65535) }
-    ensures { result ≡ positive read }
+// The number that a minus makes of the one after it.
+fn below_zero(number: u32) -> Result<i32, NumberFault>
+    requires { number ≤ 65536 }
+    ensures { result ≡ minus number }
 {
-    match read {
-        Ok(n) => Ok(n as i32),
-        Err(fault) => Err(fault),
+    match number {
+        0 => Err(NumberFault::Digits),
+        // at most `MOST_BELOW_ZERO`, so the cast keeps it
+        _ => Ok(-(number as i32)),
+    }
+}
+
+// What follows the minus that the field begins with, if it does.
+fn after_minus(field: &[u8]) -> Option<&[u8]>
+    ensures { AfterMinus field.now result }
+{
+    match field {
+        [b'-', digits @ ..] => Some(digits),
+        _ => None,
     }
 }
 
 // A knob: a number from -65,536 to 65,535, with a minus before a negative one.
+#[tactic(auto, using(crate::proofs::Signs::read_minus, crate::proofs::Signs::read_minus_fault, crate::proofs::Signs::read_plain_fault))]
 pub fn read_knob(field: &[u8]) -> Result<i32, NumberFault>
     ensures { ReadSigned (negsuc 65535) (pos 65535) field.now result }
 {
-    if has_minus(field) {
-        below_zero(read_number(&field[1..], MOST_BELOW_ZERO))
-    } else {
-        from_zero(read_number(field, MOST))
+    match after_minus(field) {
+        Some(digits) => below_zero(read_number(digits, MOST_BELOW_ZERO)?),
+        // at most `MOST`, so the cast keeps it
+        None => Ok(read_number(field, MOST)? as i32),
     }
 }

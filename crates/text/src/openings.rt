@@ -1,9 +1,8 @@
 // The number of places and the knob of an opening line.
-ghost use Rattle.text.specs.Fields.{left};
-ghost use Rattle.text.specs.Openings.{ReadPlaces, ReadTheta, TwoFields, ReadOpening};
+ghost use Rattle.text.specs.Openings.{ReadPlaces, ReadTheta, TwoFields, ReadPair, ReadOpening};
 
-use crate::fields::first_field;
-use crate::numbers::{MOST, NumberFault, read_knob, read_number};
+use crate::fields::Fields;
+use crate::numbers::{MOST, read_knob, read_number};
 use fault::TextFault;
 
 const PLACES_FIELD: usize = 2;
@@ -13,49 +12,42 @@ const KNOB_FIELD: usize = 3;
 fn read_places(field: &[u8]) -> Result<usize, TextFault>
     ensures { ReadPlaces field.now result }
 {
-    match read_number(field, MOST) {
-        Ok(n) => Ok(n as usize),
-        Err(NumberFault::Digits) => Err(TextFault::Digits(PLACES_FIELD)),
-        Err(NumberFault::Size) => Err(TextFault::Dimension(PLACES_FIELD)),
-    }
+    let places = read_number(field, MOST).map_err(|fault| fault.in_field(
+        PLACES_FIELD,
+        TextFault::Dimension(PLACES_FIELD),
+    ))?;
+    // `usize` has no `From<u32>`, and a number of 16 bits fits
+    Ok(places as usize)
 }
 
 fn read_theta(field: &[u8]) -> Result<i32, TextFault>
     ensures { ReadTheta field.now result }
 {
-    match read_knob(field) {
-        Ok(theta) => Ok(theta),
-        Err(NumberFault::Digits) => Err(TextFault::Digits(KNOB_FIELD)),
-        Err(NumberFault::Size) => Err(TextFault::Knob(KNOB_FIELD)),
+    read_knob(field).map_err(|fault| fault.in_field(KNOB_FIELD, TextFault::Knob(KNOB_FIELD)))
+}
+
+// The fields, if there are two.
+fn two_fields(mut fields: Fields<'_>) -> Option<(&[u8], &[u8])>
+    ensures { TwoFields fields.entry result }
+{
+    let first = fields.next()?;
+    let second = fields.next()?;
+    match fields.next() {
+        Some(_) => None,
+        None => Some((first, second)),
     }
 }
 
-// The fields of a text that has two.
-fn two_fields(rest: Option<&[u8]>) -> Option<(&[u8], &[u8])>
-    ensures { TwoFields (left rest.entry) result }
+fn read_pair(places: &[u8], theta: &[u8]) -> Result<(usize, i32), TextFault>
+    ensures { ReadPair places.now theta.now result }
 {
-    let Some(text) = rest else {
-        return None;
-    };
-    let (first, more) = first_field(text);
-    let Some(tail) = more else {
-        return None;
-    };
-    let (second, end) = first_field(tail);
-    if end.is_some() {
-        return None;
-    }
-    Some((first, second))
+    Ok((read_places(places)?, read_theta(theta)?))
 }
 
 // The number of places and the knob in the fields after the letter.
-pub fn read_opening(rest: Option<&[u8]>) -> Result<(usize, i32), TextFault>
-    ensures { ReadOpening (left rest.entry) result }
+pub fn read_opening(fields: Fields<'_>) -> Result<(usize, i32), TextFault>
+    ensures { ReadOpening fields.entry result }
 {
-    let Some((first, second)) = two_fields(rest) else {
-        return Err(TextFault::Fields);
-    };
-    let places = read_places(first)?;
-    let theta = read_theta(second)?;
-    Ok((places, theta))
+    let (places, theta) = two_fields(fields).ok_or(TextFault::Fields)?;
+    read_pair(places, theta)
 }

@@ -3,14 +3,12 @@ use Rattle.std.proofs.Common.{◌≡◌, ℕ, zero, suc, ◌<◌, ◌≤◌, min
 use Rattle.std.proofs.lemmas.Int.{ints}
 use Rattle.grid.specs.declared.parts.Edge.{Edge}
 use Rattle.grid.specs.declared.parts.Edge.TheVariants.{Low, High}
-use Rattle.windows.specs.declared.intervals.Interval.{Interval}
-use Rattle.windows.specs.declared.intervals.Extreme.{Extreme}
-use Rattle.windows.specs.declared.window.Window.{Window}
-use Rattle.windows.specs.Intervals.{interval_at, Between}
-use Rattle.windows.specs.Ends.{far_end, far_ends, IsExtreme}
+use Rattle.windows.specs.Intervals.{Interval, interval_at, Between}
+use Rattle.grid.specs.declared.extremes.Extreme.{Extreme}
+use Rattle.grid.specs.Extremes.{IsExtreme}
+use Rattle.windows.specs.Ends.{far_end, far_ends}
 use Rattle.windows.specs.Runs.{AtPlace}
 use Rattle.windows.specs.Finding.{Holds, Same, LowSums, HighSums}
-use Rattle.windows.specs.Held.{intervals_of}
 use Rattle.windows.proofs.Reach.{Run, Reach, NoFarther, Room, OnEdge, near_end, widest, counted, run_reach, run_edge, run_made, reach_room, room_reach}
 
 -- ---- the sum of a value and the other extreme
@@ -112,19 +110,10 @@ module _ {e : Edge} {θ : ℤ} {w : List Interval} {j bound g extra room : ℕ} 
 pub run_none : (e : Edge) (θ : ℤ) (w : List Interval) (j : ℕ) → ((v : ℕ) → InRun e θ w j v → ⊥) → Same (Holds None) (InRun e θ w j)
 run_none e θ w j never v = (λ h. absurd h, λ h. absurd (never v h))
 
--- ---- the same of a window
+-- ---- what the tightest end of a window leaves
 
--- the bound that the tightest end of a window leaves
-abbrev pub Tightest : Edge → Window → Extreme
-Tightest Low w = w.least_high
-Tightest High w = w.greatest_low
-
-tightest_is : (e : Edge) (w : Window) → IsExtreme e (far_ends e (intervals_of w)) (Tightest e w)
-tightest_is Low w = w.highs
-tightest_is High w = w.lows
-
-pub reach_bound : (e : Edge) (w : Window) (j : ℕ) (P : ℕ → Type 0) → Same P (λ v. Room e (Tightest e w).measure (Tightest e w).place j v) → Same P (Reach e (intervals_of w) j)
-reach_bound e w j P same v = (
-  (λ h. room_reach e (intervals_of w) j v (Tightest e w) w.some (tightest_is e w) ((same v).0 h)),
-  (λ h. (same v).1 (reach_room e (intervals_of w) j v (Tightest e w) w.some (tightest_is e w) h)),
+pub reach_bound : (e : Edge) (w : List Interval) (x : Extreme) (j : ℕ) (P : ℕ → Type 0) → 0 < length w → IsExtreme e (far_ends e w) x → Same P (λ v. Room e x.measure x.place j v) → Same P (Reach e w j)
+reach_bound e w x j P some is same v = (
+  (λ h. room_reach e w j v x some is ((same v).0 h)),
+  (λ h. (same v).1 (reach_room e w j v x some is h)),
 )

@@ -1,6 +1,6 @@
 -- The lemmas of `windows`.
-pub mod Ends
 pub mod Reach
 pub mod Witness
 pub mod Wanted
 pub mod Finding
+pub mod Stored

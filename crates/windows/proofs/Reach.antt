@@ -1,19 +1,30 @@
 -- How far a value at place j may lie from an edge: the run conditions of both edges in one form.
 use Rattle.std.proofs.Common.{◌≡◌, ℕ, ◌+◌, ◌<◌, ◌≤◌, min, max, List, map, length, get_or, ℤ, pos, ◌+ℤ◌, ◌≤ℤ◌, ◌<ℤ◌, sym, ◌∙◌, subst, ⊎_elim, arith}
+use lib.ListN.{length-map}
+use Rattle.std.proofs.lemmas.List.{get_or-map}
 use Rattle.std.proofs.lemmas.Bool.Decides.{nat_tests}
 use Rattle.std.proofs.lemmas.Bool.{cases_lt}
 use Rattle.grid.specs.declared.parts.Edge.{Edge}
 use Rattle.grid.specs.declared.parts.Edge.TheVariants.{Low, High}
 use Rattle.grid.specs.Vectors.{least, greatest}
 use Rattle.grid.specs.Keys.{Beyond, extreme}
-use Rattle.grid.proofs.Extremes.{extreme_first, extreme_none}
-use Rattle.windows.specs.declared.intervals.Interval.{Interval}
-use Rattle.windows.specs.declared.intervals.Extreme.{Extreme}
-use Rattle.windows.specs.Intervals.{interval_at, Between}
-use Rattle.windows.specs.Ends.{far_ends, IsExtreme}
+use Rattle.grid.proofs.ExtremeLemmas.{extreme_first, extreme_none}
+use Rattle.windows.specs.Intervals.{Interval, interval_at, Between}
+use Rattle.grid.specs.declared.extremes.Extreme.{Extreme}
+use Rattle.grid.specs.Extremes.{IsExtreme}
+use Rattle.windows.specs.Ends.{far_end, far_ends}
 use Rattle.windows.specs.Runs.{AtPlace, LowRun, HighRun, past, short}
 use Rattle.windows.specs.Finding.{late}
-use Rattle.windows.proofs.Ends.{far_at, get_or_far, length_far}
+
+-- the end of place i that lies away from an edge
+abbrev pub far_at : Edge → List Interval → ℕ → ℕ
+far_at e w i = far_end e (interval_at w i)
+
+pub get_or_far : (e : Edge) (w : List Interval) (i : ℕ) → i < length w → get_or (far_ends e w) i 0 ≡ far_at e w i
+get_or_far e w i h = get_or-map (far_end e) w i (record { low = 0; high = 0 }) 0 h
+
+pub length_far : (e : Edge) (w : List Interval) → length (far_ends e w) ≡ length w
+length_far e w = length-map w (far_end e)
 
 -- x lies no farther from the edge than y
 abbrev pub NoFarther : Edge → ℕ → ℕ → Type 0

@@ -4,7 +4,7 @@ use Rattle.grid.specs.declared.parts.Edge.TheVariants.{Low, High}
 use Rattle.grid.specs.Vectors.{first_place}
 use Rattle.grid.specs.Keys.{extreme, key_at}
 use Rattle.grid.proofs.Edges.{edge_cases, key_low, key_high}
-use Rattle.windows.specs.declared.intervals.Interval.{Interval}
+use Rattle.windows.specs.Intervals.{Interval}
 use Rattle.windows.specs.Runs.{AtPlace, LowRun, HighRun, Valid, WantedByRuns}
 use Rattle.windows.specs.Wanted.{Wanted}
 use Rattle.windows.proofs.Witness.{run_wanted, inside_run}

@@ -11,15 +11,13 @@ use Rattle.grid.specs.declared.parts.Edge.TheVariants.{Low, High}
 use Rattle.grid.specs.Vectors.{least, greatest, first_place}
 use Rattle.grid.specs.Keys.{Beyond, extreme, key_at, key_of, edge_of}
 use Rattle.grid.specs.KeyRule.{FirstPlace}
-use Rattle.grid.proofs.Extremes.{Leads, leads_found, least_le, le_least, greatest_ge, greatest_le, extreme_first}
+use Rattle.grid.proofs.ExtremeLemmas.{Leads, leads_found, least_le, le_least, greatest_ge, greatest_le, extreme_first}
 use Rattle.grid.proofs.Edges.{LowSum, HighSum, low_edge, high_edge, key_low, key_high}
-use Rattle.windows.specs.declared.intervals.Interval.{Interval}
-use Rattle.windows.specs.Intervals.{interval_at, Between, Inside, Uncrossed}
+use Rattle.windows.specs.Intervals.{Interval, interval_at, Between, Inside, Uncrossed}
 use Rattle.windows.specs.Ends.{far_end}
 use Rattle.windows.specs.Runs.{AtPlace, Valid}
 use Rattle.windows.specs.Wanted.{Wanted}
-use Rattle.windows.proofs.Ends.{far_at}
-use Rattle.windows.proofs.Reach.{NoFarther, Run, Reach, near_end, near_ends, opposite, after, farther, counted, widest, other_extreme, OnEdge, run_reach, run_edge, run_made}
+use Rattle.windows.proofs.Reach.{far_at, NoFarther, Run, Reach, near_end, near_ends, opposite, after, farther, counted, widest, other_extreme, OnEdge, run_reach, run_edge, run_made}
 
 -- ---- the extreme towards the other edge
 

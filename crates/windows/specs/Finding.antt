@@ -1,6 +1,6 @@
 -- Runs as pairs of ends, and the sums that bound them.
-use Rattle.std.specs.Prelude.{ℕ, ◌+◌, ◌*◌, ◌≤◌, cond, List, ℤ, Some, None, Option, nat_lt}
-use Rattle.windows.specs.declared.intervals.Interval.{Interval}
+use Rattle.std.specs.Prelude.{ℕ, ◌+◌, ◌*◌, ◌≤◌, ◌↔◌, if◌then◌else◌, List, ℤ, Some, None, Option, nat_lt}
+use Rattle.windows.specs.Intervals.{Interval}
 use Rattle.windows.specs.Runs.{AtPlace, LowRun, HighRun}
 
 -- v lies in a run of values, given by its ends
@@ -15,7 +15,7 @@ Proper (Some (a, b)) = a ≤ b
 
 -- two facts hold of the same numbers
 abbrev pub Same : (ℕ → Type 0) → (ℕ → Type 0) → Type 0
-Same P Q = (v : ℕ) → (P v → Q v) × (Q v → P v)
+Same P Q = (v : ℕ) → P v ↔ Q v
 
 -- the values of place j in its low run, and in its high run
 abbrev pub InLowRun : ℤ → List Interval → ℕ → ℕ → Type 0
@@ -31,7 +31,7 @@ UpTo (Some b) v = v ≤ b
 
 -- 1 where place p stands before place j
 abbrev pub late : ℕ → ℕ → ℕ
-late p j = cond (nat_lt p j) 1 0
+late p j = if nat_lt p j then 1 else 0
 
 -- what bounds a value of a low run from above
 abbrev pub LowSums : ℕ → ℕ → ℕ → ℕ → ℕ → Type 0

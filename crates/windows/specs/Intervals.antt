@@ -1,7 +1,10 @@
 -- Windows as lists of intervals, one to a place: what lies inside, and what is checked of a window.
 use Rattle.std.specs.Prelude.{◌≡◌, ℕ, ◌<◌, ◌≤◌, List, length, Some, None, Option, slice_index, slice_index_or}
 use Rattle.fault.specs.Checks.{Checks, check, done}
-use Rattle.windows.specs.declared.intervals.Interval.{Interval}
+use Rattle.windows.specs.declared.spans.Span.{Span}
+
+abbrev pub Interval : Type 0
+Interval = Span ℕ
 
 abbrev pub interval_at : List Interval → ℕ → Interval
 interval_at w i = slice_index_or w i (record { low = 0; high = 0 })

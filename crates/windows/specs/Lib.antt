@@ -4,4 +4,4 @@ pub mod Ends
 pub mod Wanted
 pub mod Runs
 pub mod Finding
-pub mod Held
+pub mod Window

@@ -1,9 +1,8 @@
 -- The runs of a place: the values that make a wanted key there, on either edge.
-use Rattle.std.specs.Prelude.{◌≡◌, ℕ, zero, suc, ◌+◌, ◌-◌, ◌<◌, ◌≤◌, min, max, ◌⊎◌, List, map, length, ℤ, pos, ◌+ℤ◌, ◌≤ℤ◌, ◌<ℤ◌}
+use Rattle.std.specs.Prelude.{◌≡◌, ℕ, zero, suc, ◌+◌, ◌-◌, ◌<◌, ◌≤◌, min, max, ◌⊎◌, ◌↔◌, List, map, length, ℤ, pos, ◌+ℤ◌, ◌≤ℤ◌, ◌<ℤ◌}
 use Rattle.grid.specs.Vectors.{least, greatest}
 use Rattle.grid.specs.Keys.{key_at}
-use Rattle.windows.specs.declared.intervals.Interval.{Interval}
-use Rattle.windows.specs.Intervals.{interval_at, Between, Uncrossed, EndsOnGrid}
+use Rattle.windows.specs.Intervals.{Interval, interval_at, Between, Uncrossed, EndsOnGrid}
 use Rattle.windows.specs.Wanted.{Wanted}
 
 abbrev pub lows : List Interval → List ℕ
@@ -55,5 +54,5 @@ pub record Valid (w : List Interval) : Type 0 where
 -- the key of a value between the ends of a place is wanted exactly when the value lies in a run; and every wanted key is such a key
 abbrev pub WantedByRuns : Type 0
 WantedByRuns = (θ : ℤ) (w : List Interval) → Valid w
-    → ((j v : ℕ) → AtPlace w j v → (Wanted θ w (key_at j v) → LowRun θ w j v ⊎ HighRun θ w j v) × (LowRun θ w j v ⊎ HighRun θ w j v → Wanted θ w (key_at j v)))
+    → ((j v : ℕ) → AtPlace w j v → Wanted θ w (key_at j v) ↔ (LowRun θ w j v ⊎ HighRun θ w j v))
     × ((k : ℕ) → Wanted θ w k → (j : ℕ) × (v : ℕ) × AtPlace w j v × (k ≡ key_at j v))

@@ -2,8 +2,7 @@
 use Rattle.std.specs.Prelude.{◌≡◌, ℕ, List, ℤ}
 use Rattle.grid.specs.Vectors.{OnGrid}
 use Rattle.grid.specs.Keys.{key_of}
-use Rattle.windows.specs.declared.intervals.Interval.{Interval}
-use Rattle.windows.specs.Intervals.{Inside}
+use Rattle.windows.specs.Intervals.{Interval, Inside}
 
 -- some vector of the grid inside the window has the key
 abbrev pub Wanted : ℤ → List Interval → ℕ → Type 0

@@ -1,44 +1,31 @@
 // Intervals of measures, one to a place of a window.
-ghost use Rattle.std.specs.Prelude.{◌≡◌, ◌<◌, ◌≤◌, length, Decides};
-ghost use Rattle.windows.specs.Intervals.{Between, Inside};
-ghost use Rattle.windows.specs.Ends.{far_end, far_ends, IsExtreme};
+ghost use Rattle.std.specs.Prelude.{◌≡◌, ◌<◌, ◌≤◌, ◌↔◌, length, IsTrue};
+ghost use Rattle.std.specs.Bool.{OnTrue};
+ghost use Rattle.windows.specs.Intervals.{Inside, Uncrossed, EndsOnGrid};
+ghost use Rattle.windows.specs.Ends.{far_end};
 
+use crate::spans::Span;
+use grid::extremes::Measured;
 use grid::parts::Edge;
 
 // The ends of a window at one place, both included.
-#[derive(Clone, Copy)]
-pub struct Interval {
-    pub low: u16,
-    pub high: u16,
-}
-
-// An extreme measure, and the first place that has it.
-#[derive(Clone, Copy)]
-pub struct Extreme {
-    pub(crate) measure: u16,
-    pub(crate) place: usize,
-}
+pub type Interval = Span<u16>;
 
 impl Interval {
-    // Whether a measure lies between the ends.
-    pub fn has(self, measure: u16) -> bool
-        ensures { Decides result (Between self measure) }
-    {
-        self.low <= measure && measure <= self.high
-    }
-
     // Whether the low end is above the high end.
     pub fn is_crossed(self) -> bool
-        ensures decides { Decides result (self.high < self.low) }
+        ensures decides { IsTrue result ↔ (self.high < self.low) }
         ensures grid { self.high ≤ 65535 }
     {
         self.low > self.high
     }
+}
 
-    // The end that lies away from an edge.
-    fn far_end(self, edge: Edge) -> u16
-        ensures { result ≡ far_end edge self }
-    {
+// An interval counts by the end that lies away from the edge.
+impl Measured for Interval {
+    ghost measure_at = { far_end };
+
+    fn measure(&self, edge: Edge) -> u16 {
         match edge {
             Edge::Low => self.high,
             Edge::High => self.low,
@@ -46,28 +33,20 @@ impl Interval {
     }
 }
 
-// Of the ends that lie away from an edge the one nearest to it: the least high end, or the greatest low end.
-pub(crate) fn tightest(intervals: &[Interval], edge: Edge) -> Extreme
-    requires { 0 < length intervals.now }
-    ensures { IsExtreme edge (far_ends edge intervals.now) result }
+// Whether no interval has its low end above its high end.
+pub(crate) fn is_uncrossed(intervals: &[Interval]) -> bool
+    ensures uncrossed { IsTrue result ↔ Uncrossed intervals.now }
+    ensures grid { OnTrue result (EndsOnGrid intervals.now) }
 {
-    let mut place = 0;
-    for (i, interval) in intervals.iter().enumerate() {
-        if edge.is_beyond(interval.far_end(edge), intervals[place].far_end(edge)) {
-            place = i;
-        }
-    }
-    Extreme {
-        measure: intervals[place].far_end(edge),
-        place,
-    }
+    intervals.iter().all(|interval| !interval.is_crossed())
 }
 
 // Whether the measures of a slot lie inside intervals, one to each.
 pub(crate) fn is_inside(slot: &[u16], intervals: &[Interval]) -> bool
     requires { length slot.now ≡ length intervals.now }
-    ensures { Decides result (Inside intervals.now slot.now) }
+    ensures { IsTrue result ↔ Inside intervals.now slot.now }
 {
+    // Kept a loop over the slot's elements with their index: that is how this project tests what lies inside.
     for (i, measure) in slot.iter().enumerate() {
         if !intervals[i].has(*measure) {
             return false;

@@ -4,4 +4,5 @@
 pub mod finders;
 pub mod intervals;
 pub mod laws;
+pub mod spans;
 pub mod window;

@@ -1,79 +1,101 @@
 // Windows: an interval for each place, none of them crossed.
-ghost use Rattle.std.specs.Prelude.{◌≡◌, ◌<◌, ◌≤◌, length, take, Decides};
+ghost use Rattle.std.specs.Prelude.{◌≡◌, ◌↔◌, length, IsTrue};
 ghost use Rattle.fault.specs.Checks.{Answers};
 ghost use Rattle.fault.specs.Numbers.{window_number};
-ghost use Rattle.grid.specs.declared.parts.Edge.TheVariants.{Low, High};
-ghost use Rattle.windows.specs.Intervals.{Inside, Uncrossed, EndsOnGrid, PlaceOf, window_checks};
-ghost use Rattle.windows.specs.Ends.{far_ends, IsExtreme};
+ghost use Rattle.windows.specs.Intervals.{Inside, PlaceOf, window_checks};
 
-use crate::intervals::{Extreme, Interval, is_inside, tightest};
+use crate::intervals::{Interval, is_inside, is_uncrossed};
 use fault::WindowFault;
+use grid::extremes::{Extreme, first_extreme};
 use grid::parts::Edge;
-use grid::settings::Setting;
+use grid::settings::{MOST_PLACES, Setting};
+use std::marker::Model;
 
-// A window: the first `len` of its intervals.
-#[derive(Clone, Copy)]
+// A window: the first `len` of its intervals, and the tightest of their low and of their high ends. The intervals stand
+// in an array, since a window is copied and an `ArrayVec` is not.
+#[derive(Clone, Copy, Debug, PartialEq, Eq)]
 pub struct Window {
-    intervals: [Interval; 16],
+    intervals: [Interval; MOST_PLACES],
     len: usize,
     pub(crate) greatest_low: Extreme,
     pub(crate) least_high: Extreme,
-    ghost long: { length intervals ≡ 16 },
-    ghost few: { len ≤ 16 },
-    ghost some: { 0 < length (take len intervals) },
-    ghost uncrossed: { Uncrossed (take len intervals) },
-    ghost grid: { EndsOnGrid (take len intervals) },
-    ghost lows: { IsExtreme High (far_ends High (take len intervals)) greatest_low },
-    ghost highs: { IsExtreme Low (far_ends Low (take len intervals)) least_high },
+}
+
+impl Model for Window {
+    ghost use Rattle.std.specs.Prelude.{List};
+    ghost use Rattle.std.proofs.Common.{sym};
+    ghost use Rattle.windows.specs.Intervals.{Interval};
+
+    ghost Value = { List Interval };
+
+    ghost use Rattle.windows.specs.Window.{intervals_of, fields_of, IsHeld};
+
+    ghost view = { intervals_of };
+
+    ghost invariant = { λ a. IsHeld (intervals_of a) a };
+
+    ghost inverse = { fields_of };
+
+    ghost inverse_ok = { λ a h i. record {
+      intervals = sym h.cells i;
+      len = sym h.len i;
+      greatest_low = record { measure = sym h.lows.0 i; place = sym h.lows.1 i };
+      least_high = record { measure = sym h.highs.0 i; place = sym h.highs.1 i };
+    } };
 }
 
 impl Window {
+    ghost use Rattle.windows.specs.Window.{IsWindow};
+
     // The window of some intervals, if there is one to each place and none is crossed.
     pub fn new(setting: Setting, intervals: &[Interval]) -> Result<Window, WindowFault>
-        ensures { Answers window_number (window_checks setting.places intervals.now) (λ w. take w.len w.intervals ≡ intervals.now) result }
+        ensures { Answers window_number (window_checks setting.places intervals.now) (λ w. w ≡ intervals.now) result }
     {
         if !setting.has_width(intervals.len()) {
             return Err(WindowFault::Width);
         }
-        let mut held = [Interval { low: 0, high: 0 }; 16];
-        for (i, interval) in intervals.iter().enumerate() {
-            if interval.is_crossed() {
-                return Err(WindowFault::Crossed);
-            }
-            held[i] = *interval;
+        if !is_uncrossed(intervals) {
+            return Err(WindowFault::Crossed);
         }
+        // A setting has a place, so there are extremes.
+        let greatest_low = first_extreme(intervals, Edge::High).unwrap();
+        let least_high = first_extreme(intervals, Edge::Low).unwrap();
+        let mut held = [Interval { low: 0, high: 0 }; MOST_PLACES];
+        held[..intervals.len()].copy_from_slice(intervals);
         Ok(Window {
             intervals: held,
             len: intervals.len(),
-            greatest_low: tightest(intervals, Edge::High),
-            least_high: tightest(intervals, Edge::Low),
+            greatest_low,
+            least_high,
         })
     }
 
     // The intervals, one to a place.
     pub fn intervals(&self) -> &[Interval]
-        ensures { result.now ≡ take self.now.len self.now.intervals }
+        ensures all { result.now ≡ self.now }
+        ensures window { IsWindow self.now }
     {
-        &self.intervals[0..self.len]
+        &self.intervals[..self.len]
     }
 
     // How many places the window has.
     pub fn places(&self) -> usize
-        ensures { result ≡ length (take self.now.len self.now.intervals) }
+        ensures count { result ≡ length self.now }
+        ensures window { IsWindow self.now }
     {
         self.intervals().len()
     }
 
     // The interval of a place, if the window has that place.
     pub fn interval(&self, place: usize) -> Option<Interval>
-        ensures { PlaceOf (take self.now.len self.now.intervals) place result }
+        ensures { PlaceOf self.now place result }
     {
         self.intervals().get(place).copied()
     }
 
     // Whether a vector lies inside: it has as many places as the window, and each measure lies between its ends.
     pub fn contains(&self, vector: &[u16]) -> bool
-        ensures { Decides result (Inside (take self.now.len self.now.intervals) vector.now) }
+        ensures { IsTrue result ↔ Inside self.now vector.now }
     {
         let intervals = self.intervals();
         vector.len() == intervals.len() && is_inside(vector, intervals)

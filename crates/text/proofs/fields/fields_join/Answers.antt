@@ -1,5 +1,5 @@
 -- The proof of `fields_join`: what the search leaves open.
-use Rattle.text.proofs.Turns.{fields_join}
+use Rattle.text.proofs.FieldLemmas.{fields_join}
 use Rattle.text.proofs.fields.fields_join.Goals as goal
 
 pub returns : goal.returns

@@ -1,34 +1,31 @@
 -- The proof of `read_numbers`: what the search leaves open.
-use Rattle.std.proofs.Common.{refl, ap, subst, arith}
-use Rattle.text.specs.Fields.{left}
-use Rattle.text.proofs.Turns.{Reading, reading_start, reading_none, reading_done, reading_more, reading_fault}
+use Rattle.std.proofs.Common.{rules, ◌≡◌, ◌≤◌, ℕ, [], ◌∷◌, ◌++◌, List, Ok, length, refl, arith, Bor}
+use Rattle.std.proofs.lemmas.Iterator.Consumers.{YieldsList-from_first, YieldsList-from_enumerate, YieldsList-at, YieldsList-turn, YieldsList-end}
+use Rattle.std.proofs.lemmas.List.{length_push}
+use Rattle.std.proofs.lemmas.List.FromFn.{length-enumerate_from}
+use Rattle.text.proofs.FieldLemmas.{enumerated, reading_more, reading_done}
 use Rattle.text.proofs.fields.read_numbers.Goals as goal
-
-pub loop-i-init : goal.loop-i-init
-loop-i-init c = reading_start c.args.rest c.args.out.now
-
-pub returns-in_default : goal.returns-in_default
-returns-in_default c =
-    let long = c.if-not-fills.ensures.0 refl in
-    let none = subst (λ m. Reading (left c.args.rest) c.args.out.now c.loop-i.out m c.loop-i.i) c.in_default.is c.loop-i.invariant in
-    absurd (reading_none (left c.args.rest) c.args.out.now c.loop-i.out c.loop-i.i (omega (arith, long)) none (omega arith))
-
-pub returns-in-Err : goal.returns-in-Err
-returns-in-Err c =
-    let long = c.if-not-fills.ensures.0 refl in (
-      long,
-      reading_fault (left c.args.rest) c.args.out.now c.loop-i.out c.loop-i.i (omega (arith, long)) c.in-Some.text.now c.first_field.result.0.now
-          c.loop-i.after (ap left c.in-Some.is) c.first_field.result.1 c.first_field.ensures c.loop-i.invariant (omega arith) c.in-Err.kind c.in-Err.ensures,
-      c.loop-i.invariant.kept,
-    )
 
 pub loop-i-preserved : goal.loop-i-preserved
 loop-i-preserved c =
-    let long = c.if-not-fills.ensures.0 refl in
-    reading_more (left c.args.rest) c.args.out.now c.loop-i.out c.loop-i.i (omega (arith, long)) c.in-Some.text.now c.first_field.result.0.now
-    c.loop-i.after (ap left c.in-Some.is) c.first_field.result.1 c.first_field.ensures c.loop-i.invariant (omega arith) c.in-Ok.n c.in-Ok.ensures
+    let fs = c.args.fields in
+    let field = c.in-Some.field in
+    let items = YieldsList-at c.enumerate-i-items.ensures.source (YieldsList-from_first (λ (x : Bor (List ℕ)). x.now) (λ (s : List (List ℕ)). s) fs refl) in
+    let road = YieldsList-at c.into_iter-i-iterator.ensures.into_iter_gives (YieldsList-from_enumerate items c.enumerate-i-items.ensures.count) in
+    let turn = YieldsList-turn road c.loop-i.yielded c.loop-i.i-iterator c.loop-i.yielded_by c.next.result c.next.new.self (c.in-Some.i, field) c.in-Some.is c.next.ensures.steps in
+    let at = enumerated fs (length c.loop-i.yielded) c.in-Some.i field.now turn.0 turn.1 in
+    let long : length fs ≡ length c.loop-i.out = search rules in
+    let was : c.read_number.result ≡ Ok c.in_ok-number.number = search rules in
+    let spells = rw was at c.read_number.ensures in
+    (search rules, search rules, reading_more fs c.args.out.now c.loop-i.out (length c.loop-i.yielded) c.loop-i.invariant.2 c.in-Some.i (length (c.loop-i.yielded ++ (c.in-Some.i, field) ∷ [])) c.in_ok-number.number at.1 (length_push c.loop-i.yielded (c.in-Some.i, field)) long (omega arith) field.now at.2 spells.0 spells.1)
 
 pub returns : goal.returns
 returns c =
-    let long = c.if-not-fills.ensures.0 refl in
-    (long, reading_done (left c.args.rest) c.args.out.now c.loop-i.out c.loop-i.i (omega (arith, long)) c.loop-i.after c.loop-i.invariant (omega arith))
+    let fs = c.args.fields in
+    let items = YieldsList-at c.enumerate-i-items.ensures.source (YieldsList-from_first (λ (x : Bor (List ℕ)). x.now) (λ (s : List (List ℕ)). s) fs refl) in
+    let road = YieldsList-at c.into_iter-i-iterator.ensures.into_iter_gives (YieldsList-from_enumerate items c.enumerate-i-items.ensures.count) in
+    let end = YieldsList-end road c.loop-i.yielded c.loop-i.i-iterator c.loop-i.yielded_by c.next.result c.next.new.self c.in-None.is c.next.ensures.steps in
+    let long : length fs ≡ length c.args.out.now = search rules in
+    let now : length fs ≡ length c.loop-i.out = search rules in
+    let all : length c.loop-i.out ≤ length c.loop-i.yielded = omega (arith, end.1, now, length-enumerate_from 0 fs) in
+    (long, reading_done fs c.args.out.now c.loop-i.out (length c.loop-i.yielded) now all c.loop-i.invariant.2)

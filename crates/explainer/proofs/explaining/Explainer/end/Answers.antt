@@ -1,27 +1,23 @@
 -- The proof of `end`: what the search leaves open.
-use Rattle.std.proofs.Common.{ℕ, List, [], ◌∷◌, ◌++◌, sym, refl, subst, arith}
-use Rattle.sessions.specs.Histories.{Ended}
-use Rattle.explainer.proofs.Ending.{handled_none, handled_some, with_none, with_some}
+use Rattle.std.proofs.Common.{◌≡◌, ℕ, ◌<◌, List, [], ◌∷◌, ◌++◌, length, refl, arith}
+use Rattle.std.proofs.lemmas.Grind.{common_steps}
+use Rattle.std.proofs.lemmas.Result.{on_ok_weaker}
+use Rattle.sessions.specs.Histories.{Taken, with_last}
 use Rattle.explainer.proofs.explaining.Explainer.end.Goals as goal
+use Rattle.explainer.proofs.explaining.Explainer.end.Goals.{then-not-is_empty+in_ok-handle, else-not-is_empty}
 
-pub returns-then-last-eq0 : goal.returns-then-last-eq0
-returns-then-last-eq0 c = record {
-  prints = λ ok. (c.args.self.now, handled_none c.args.last.now c.args.self.now (omega arith), c.finish.ensures.keeps.0, c.finish.ensures.prints ok);
-  counts = λ ok ls taken.
-      let study = c.finish.new.self.session.study in
-      let P : List (List ℕ) → Type 0 = λ v. Ended v study in
-      subst P (sym (with_none ls c.args.last.now (omega arith)))
-      (subst (λ s. Ended ls s.study) (sym c.finish.ensures.keeps.0) (c.finish.ensures.counts ls taken));
-}
+with_none : (ls : List (List ℕ)) (last : List ℕ) → length last ≡ 0 → with_last ls last ≡ ls
+with_none ls [] e = refl
+with_none ls (b ∷ bs) e = absurd (omega arith)
 
-pub returns : goal.returns
-returns c =
-    let told = c.in_ok-handle.ensures in
-    record {
-      prints = λ ok. (c.handle.new.self, handled_some c.args.last.now c.args.self.now c.handle.new.self (omega arith) told.answers, c.finish-2.ensures.keeps.0, c.finish-2.ensures.prints ok);
-      counts = λ ok ls taken.
-          let study = c.finish-2.new.self.session.study in
-          let P : List (List ℕ) → Type 0 = λ v. Ended v study in
-          subst P (sym (with_some ls c.args.last.now (omega arith)))
-          (subst (λ s. Ended (ls ++ c.args.last.now ∷ []) s.study) (sym c.finish-2.ensures.keeps.0) (c.finish-2.ensures.counts (ls ++ c.args.last.now ∷ []) (told.after refl ls taken)));
-    }
+with_some : (ls : List (List ℕ)) (last : List ℕ) → 0 < length last → with_last ls last ≡ ls ++ last ∷ []
+with_some ls [] l = absurd (omega arith)
+with_some ls (b ∷ bs) l = refl
+
+pub returns-clause-counts : goal.returns-clause-counts
+returns-clause-counts c = on_ok_weaker c.finish.result (λ _ ls taken.
+    let all : Taken c.if-not-is_empty.self.study c.if-not-is_empty.self.lines (with_last ls c.args.last.now) = elim c.if-not-is_empty.branch [
+      | then-not-is_empty+in_ok-handle w ↦ rw (w.self-is, with_some ls c.args.last.now (grind (arith, common_steps))) (w.in_ok-handle.ensures.after ls taken)
+      | else-not-is_empty w ↦ rw (w.self-is, with_none ls c.args.last.now (grind (arith, common_steps))) taken
+    ] in
+    rw c.finish.ensures.keeps.0 (c.finish.ensures.counts (with_last ls c.args.last.now) all)) c.finish.ensures.prints

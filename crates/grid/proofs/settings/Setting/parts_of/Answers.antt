@@ -5,7 +5,6 @@ use Rattle.grid.proofs.settings.Setting.parts_of.Goals as goal
 
 pub returns : goal.returns
 returns c =
-    parts_found c.args.self.theta c.args.vector.now c.extreme_place-p.result c.extreme_place-q.result _
-    c.extreme_place-p.ensures.value c.extreme_place-p.ensures.first
-    c.extreme_place-q.ensures.value c.extreme_place-q.ensures.first
-    c.edge-edge.ensures c.pick-place.ensures refl
+    parts_found _ c.args.vector.now c.unwrap-low.result c.unwrap-high.result _ _
+    (rw c.unwrap-low.ensures at c.first_extreme.ensures.extreme) (rw c.unwrap-high.ensures at c.first_extreme-2.ensures.extreme)
+    c.edge-edge.ensures c.pick-measure.ensures refl refl
