@@ -15,27 +15,20 @@ fn print(rt: &HostRuntime, explainer: &mut Explainer) -> anyhow::Result<()> {
     Ok(())
 }
 
-// Takes in bytes, and prints the answers to the lines that they end. No further bytes are taken once the explainer is done.
-fn take_bytes(
-    rt: &HostRuntime,
-    reader: &mut LineReader,
-    explainer: &mut Explainer,
-    bytes: &[u8],
-) -> anyhow::Result<ControlFlow<()>> {
-    feed(reader, explainer, bytes)?;
-    print(rt, explainer)?;
-    if explainer.is_done() {
-        return Ok(ControlFlow::Break(()));
-    }
-    Ok(ControlFlow::Continue(()))
-}
-
 fn main(rt: HostRuntime) -> anyhow::Result<()> {
     let mut reader = LineReader::new();
     let mut explainer = Explainer::new(rt.alloc());
-    for_each_chunk(&mut rt.stdin(), |bytes| {
-        take_bytes(&rt, &mut reader, &mut explainer, bytes)
-    })?;
+    for_each_chunk(
+        &mut rt.stdin(),
+        |bytes| -> anyhow::Result<ControlFlow<()>> {
+            feed(&mut reader, &mut explainer, bytes)?;
+            print(&rt, &mut explainer)?;
+            if explainer.is_done() {
+                return Ok(ControlFlow::Break(()));
+            }
+            Ok(ControlFlow::Continue(()))
+        },
+    )?;
     explainer.end(reader.line())?;
     print(&rt, &mut explainer)
 }

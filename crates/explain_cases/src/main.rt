@@ -5,47 +5,51 @@ use explainer::explaining::Explainer;
 use lines::chunks::for_each_chunk;
 use lines::feeding::feed;
 use lines::reader::LineReader;
+use std::alloc::Global;
 use std::io::Write;
 use std::ops::ControlFlow;
 
 const SEPARATOR: u8 = b'\x0c';
 
-// Ends a session, prints what it has written, and starts the next.
-fn restart(
-    rt: &HostRuntime,
-    reader: &mut LineReader,
-    explainer: &mut Explainer,
-) -> anyhow::Result<()> {
-    explainer.end(reader.line())?;
-    rt.stdout().write_all(explainer.output().as_bytes())?;
-    reader.clear();
-    *explainer = Explainer::new(rt.alloc());
-    Ok(())
+// The line that has not ended, and what the lines of the session before it have made.
+#[derive(Drop)]
+struct Run {
+    reader: LineReader,
+    explainer: Explainer,
 }
 
-// Takes in bytes, and starts the next session after each separator.
-fn take_bytes(
-    rt: &HostRuntime,
-    reader: &mut LineReader,
-    explainer: &mut Explainer,
-    bytes: &[u8],
-) -> anyhow::Result<ControlFlow<()>> {
-    let mut parts = bytes.split(|b| *b == SEPARATOR);
-    if let Some(part) = parts.next() {
-        feed(reader, explainer, part)?;
+impl Run {
+    fn new(alloc: Global) -> Run {
+        Run {
+            reader: LineReader::new(),
+            explainer: Explainer::new(alloc),
+        }
     }
-    for part in parts {
-        restart(rt, reader, explainer)?;
-        feed(reader, explainer, part)?;
+
+    // Ends a session, and prints what it has written.
+    fn end(&mut self, rt: &HostRuntime) -> anyhow::Result<()> {
+        self.explainer.end(self.reader.line())?;
+        rt.stdout().write_all(self.explainer.output().as_bytes())?;
+        Ok(())
     }
-    Ok(ControlFlow::Continue(()))
+
+    // Takes in bytes, and starts the next session after each separator.
+    fn take(&mut self, rt: &HostRuntime, bytes: &[u8]) -> anyhow::Result<ControlFlow<()>> {
+        let mut parts = bytes.split(|b| *b == SEPARATOR);
+        if let Some(part) = parts.next() {
+            feed(&mut self.reader, &mut self.explainer, part)?;
+        }
+        for part in parts {
+            self.end(rt)?;
+            *self = Run::new(rt.alloc());
+            feed(&mut self.reader, &mut self.explainer, part)?;
+        }
+        Ok(ControlFlow::Continue(()))
+    }
 }
 
 fn main(rt: HostRuntime) -> anyhow::Result<()> {
-    let mut reader = LineReader::new();
-    let mut explainer = Explainer::new(rt.alloc());
-    for_each_chunk(&mut rt.stdin(), |bytes| {
-        take_bytes(&rt, &mut reader, &mut explainer, bytes)
-    })?;
-    restart(&rt, &mut reader, &mut explainer)
+    let mut run = Run::new(rt.alloc());
+    for_each_chunk(&mut rt.stdin(), |bytes| run.take(&rt, bytes))?;
+    run.end(&rt)
 }

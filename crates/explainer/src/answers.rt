@@ -9,7 +9,7 @@ use std::fmt;
 use std::fmt::Write;
 
 // The answer to a line, and whether the session was open before it, as the session says it.
-#[derive(Clone, Copy, Debug)]
+#[derive(Clone, Copy, Debug, PartialEq, Eq)]
 struct AnswerLine {
     line: u32,
     opened: bool,
@@ -59,7 +59,7 @@ impl fmt::Display for AnswerLine {
     }
 }
 
-// Writes the answer to a line of a session.
+// Writes the answer to a line of a session, which was open before the line or not, as `Session::is_open` says.
 pub fn write_answer(
     to: &mut String,
     line: u32,
@@ -78,7 +78,7 @@ pub fn write_answer(
 }
 
 // How many vectors stand on the edges of a place.
-#[derive(Clone, Copy, Debug)]
+#[derive(Clone, Copy, Debug, PartialEq, Eq)]
 struct CountsLine {
     place: usize,
     counts: Counts,

@@ -41,6 +41,7 @@ pub fn first_extreme<M: Measured>(items: &[M], edge: Edge) -> Option<Extreme>
     ensures extreme { IfSome result (IsExtreme edge (map (M.measure_at edge) items.now)) }
     ensures within { IfSome result (λ x. x.place < length items.now) }
 {
+    // not by `max_by_key`, which answers the last of equals
     let mut best = None;
     for (place, item) in items.iter().enumerate() {
         let measure = item.measure(edge);

@@ -41,7 +41,7 @@ impl Edge {
     }
 
     // What goes with the edge, of two.
-    fn pick(self, low: Extreme, high: Extreme) -> Extreme
+    pub fn pick<T: Copy>(self, low: T, high: T) -> T
         ensures { result ≡ on_edge self low high }
     {
         match self {

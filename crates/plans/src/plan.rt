@@ -71,6 +71,7 @@ impl Plan {
     pub fn is_planned(&self, key: u32) -> bool
         ensures { IsTrue result ↔ Planned self.now key }
     {
+        // one by one, since there are at most 32
         self.ranges().iter().any(|range| range.has(key))
     }
 }

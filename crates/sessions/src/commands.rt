@@ -5,7 +5,6 @@ ghost use Rattle.sessions.specs.Commands.{OpeningLine, line_fault, Near, ReadMea
 use fault::TextFault;
 use text::fields::{Fields, FieldsFault, read_numbers};
 use text::heads::read_head;
-use text::numbers::NumberFault;
 use text::openings::read_opening;
 
 const FIRST_FIELD: usize = 2;
@@ -23,15 +22,17 @@ pub fn read_opening_line(line: &[u8]) -> Result<(usize, i32), TextFault>
     }
 }
 
-// A faulty field after the letter, as a fault of the line.
+// A faulty field after the letter, as a fault of the line. Not a `From`, since it asks that the field can be counted on.
 fn fault_of(fault: FieldsFault) -> TextFault
     requires { Near fault }
     ensures { result ≡ line_fault fault }
 {
     match fault {
         FieldsFault::Count => TextFault::Fields,
-        FieldsFault::At(NumberFault::Digits, i) => TextFault::Digits(i + FIRST_FIELD),
-        FieldsFault::At(NumberFault::Size, i) => TextFault::Size(i + FIRST_FIELD),
+        FieldsFault::At(kind, i) => kind.in_field(
+            i + FIRST_FIELD,
+            TextFault::Size(i + FIRST_FIELD),
+        ),
     }
 }
 

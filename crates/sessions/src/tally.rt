@@ -26,7 +26,7 @@ impl Counts {
     }
 }
 
-// The counts of 16 places. Clauses see them as a list.
+// The counts of 16 places, in an array, since nothing is allocated here. Clauses see them as a list.
 #[derive(Clone, Copy, Debug, PartialEq, Eq)]
 pub struct Tally {
     counts: [Counts; MOST_PLACES],

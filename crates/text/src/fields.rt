@@ -85,6 +85,7 @@ impl<'a> Fields<'a> {
     pub fn has_count(&self, count: usize) -> bool
         ensures { IsTrue result ↔ (length self.now ≡ count) }
     {
+        // a match and not `map_or`, whose answer for nothing would stand before the question
         match self.rest {
             Some(line) => has_fields(line, count),
             None => count == 0,
@@ -116,7 +117,8 @@ pub fn read_numbers(fields: Fields<'_>, out: &mut [u16]) -> Result<(), FieldsFau
     }
     for (i, field) in fields.enumerate() {
         let number = read_number(field, MOST).map_err(|kind| FieldsFault::At(kind, i))?;
-        // at most `MOST`, so the cast keeps it
+        // by its index, since nothing is known of what is written through a zipped iterator; at most `MOST`, so the
+        // cast keeps it
         out[i] = number as u16;
     }
     Ok(())

@@ -21,7 +21,7 @@ pub enum NumberFault {
 
 impl NumberFault {
     // The fault of this field of a line, which has a fault of its own for a number outside the limits.
-    pub(crate) fn in_field(self, field: usize, outside: TextFault) -> TextFault
+    pub fn in_field(self, field: usize, outside: TextFault) -> TextFault
         ensures { result ≡ field_fault field outside self }
     {
         match self {
@@ -54,6 +54,7 @@ pub fn read_number(field: &[u8], most: u32) -> Result<u32, NumberFault>
     if !is_plain(field) {
         return Err(NumberFault::Digits);
     }
+    // a match, since too large for the limit and too large for 32 bits are one refusal
     match text.parse::<u32>() {
         Ok(number) if number <= most => Ok(number),
         _ => Err(NumberFault::Size),

@@ -32,10 +32,7 @@ fn two_fields(mut fields: Fields<'_>) -> Option<(&[u8], &[u8])>
 {
     let first = fields.next()?;
     let second = fields.next()?;
-    match fields.next() {
-        Some(_) => None,
-        None => Some((first, second)),
-    }
+    fields.next().is_none().then_some((first, second))
 }
 
 fn read_pair(places: &[u8], theta: &[u8]) -> Result<(usize, i32), TextFault>

@@ -26,10 +26,7 @@ impl Measured for Interval {
     ghost measure_at = { far_end };
 
     fn measure(&self, edge: Edge) -> u16 {
-        match edge {
-            Edge::Low => self.high,
-            Edge::High => self.low,
-        }
+        edge.pick(self.high, self.low)
     }
 }
 
