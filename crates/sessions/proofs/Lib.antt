@@ -1,3 +1,2 @@
 -- The lemmas of `sessions`.
-mod Counting
 pub mod Answering

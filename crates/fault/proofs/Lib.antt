@@ -1,2 +1,0 @@
--- The lemmas of `fault`.
-mod Named
