@@ -1,5 +1,5 @@
 // The explain program on values: lines in, answers and a table out.
-ghost use Rattle.std.specs.Prelude.{◌≡◌, ℕ, ◌≤◌, ◌↔◌, List, [], ◌∷◌, ◌++◌, is_ok, IsTrue, OnOk};
+ghost use Rattle.std.specs.Prelude.{◌≡◌, ℕ, ◌≤◌, ◌↔◌, List, [], ◌∷◌, ◌++◌, is_ok, IsTrue, OnOk, string_bytes};
 ghost use Rattle.sessions.specs.Histories.{Taken, Ended, with_last};
 ghost use Rattle.explainer.specs.Explaining.{Progress, Handled, LastHandled};
 ghost use Rattle.explainer.specs.Written.{closing};
@@ -22,18 +22,17 @@ pub struct Explainer {
 }
 
 impl Model for Explainer {
-    ghost use Rattle.std.specs.Prelude.{string_bytes};
     ghost use Rattle.explainer.specs.Explaining.{Progress};
 
     ghost Value = { Progress };
 
-    ghost view = { λ e. record { study = e.session; lines = e.lines; output = string_bytes e.output } };
+    ghost view = { λ e. record { study = e.session; lines = e.lines; output = e.output } };
 }
 
 impl Explainer {
     pub fn new(heap: Global) -> Explainer
         ensures takes { Taken result.study result.lines [] }
-        ensures clear { result.output ≡ [] }
+        ensures clear { string_bytes result.output ≡ [] }
     {
         Explainer {
             session: Session::new(),
@@ -51,7 +50,7 @@ impl Explainer {
 
     // What is still to be printed.
     pub fn output(&self) -> &str
-        ensures { result.now ≡ self.now.output }
+        ensures { result.now ≡ string_bytes self.now.output }
     {
         self.output.as_str()
     }
@@ -59,7 +58,7 @@ impl Explainer {
     // Writes the table of the counts, if a line has opened the session.
     pub fn finish(&mut self) -> fmt::Result
         ensures keeps { (self.new.study ≡ self.old.study) × (self.new.lines ≡ self.old.lines) }
-        ensures prints { OnOk result (self.new.output ≡ self.old.output ++ closing self.old.study) }
+        ensures prints { OnOk result (string_bytes self.new.output ≡ string_bytes self.old.output ++ closing self.old.study) }
         ensures counts { (ls : List (List ℕ)) → Taken self.old.study self.old.lines ls → Ended ls self.old.study }
     {
         // a copy, once in a session
@@ -73,7 +72,7 @@ impl Explainer {
     // Takes what follows the last line feed, if anything does, and writes the table.
     pub fn end(&mut self, last: &[u8]) -> fmt::Result
         ensures prints { OnOk result ((s : Progress) × LastHandled last.now self.old s × (self.new.study ≡ s.study)
-            × (self.new.output ≡ s.output ++ closing s.study)) }
+            × (string_bytes self.new.output ≡ string_bytes s.output ++ closing s.study)) }
         ensures counts { OnOk result ((ls : List (List ℕ)) → Taken self.old.study self.old.lines ls → Ended (with_last ls last.now) self.new.study) }
     {
         if !last.is_empty() {
@@ -84,7 +83,7 @@ impl Explainer {
 
     // Forgets what was printed.
     pub fn clear_output(&mut self)
-        ensures clears { self.new.output ≡ [] }
+        ensures clears { string_bytes self.new.output ≡ [] }
         ensures keeps { (self.new.study ≡ self.old.study) × (self.new.lines ≡ self.old.lines) }
     {
         self.output.clear();

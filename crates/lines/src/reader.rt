@@ -1,23 +1,26 @@
 // A line as its bytes come in.
 ghost use Rattle.std.specs.Prelude.{◌≡◌, ◌<◌, ◌≤◌, ◌↔◌, [], ◌∷◌, ◌++◌, length, take, IsTrue};
 
-use arrayvec::ArrayVec;
 use std::marker::Model;
 
 const KEPT: usize = 256;
 
-// The first 256 bytes of a line that has not ended: enough to tell that it is above 255 bytes.
+// The first 256 bytes of a line that has not ended: enough to tell that it is above 255 bytes. They stand in an array
+// with their count, since an `ArrayVec` blanks its bytes at each clearing.
 #[derive(Debug, Drop)]
 pub struct LineReader {
-    bytes: ArrayVec<u8, KEPT>,
+    bytes: [u8; KEPT],
+    len: usize,
 }
 
 impl Model for LineReader {
-    ghost use Rattle.std.specs.Prelude.{ℕ, List};
+    ghost use Rattle.std.specs.Prelude.{ℕ, ◌≡◌, ◌≤◌, List, length, take};
 
     ghost Value = { List ℕ };
 
-    ghost view = { λ r. r.bytes.items };
+    ghost view = { λ r. take r.len r.bytes };
+
+    ghost invariant = { λ r. (length r.bytes ≡ 256) × (r.len ≤ 256) };
 }
 
 impl LineReader {
@@ -25,7 +28,8 @@ impl LineReader {
         ensures { result ≡ [] }
     {
         LineReader {
-            bytes: ArrayVec::new(),
+            bytes: [0; KEPT],
+            len: 0,
         }
     }
 
@@ -34,15 +38,17 @@ impl LineReader {
         ensures room { IsTrue result ↔ (length self.now < 256) }
         ensures fits { length self.now ≤ 256 }
     {
-        !self.bytes.is_full()
+        self.len < KEPT
     }
 
     // Takes in one more byte of the line.
     pub fn push(&mut self, b: u8)
         ensures { self.new ≡ take 256 (self.old ++ b ∷ []) }
     {
+        let len = self.len;
         if self.has_room() {
-            self.bytes.push(b);
+            self.bytes[len] = b;
+            self.len = len + 1;
         }
     }
 
@@ -51,13 +57,13 @@ impl LineReader {
         ensures value { result.now ≡ self.now }
         ensures fits { length result.now ≤ 256 }
     {
-        self.bytes.as_slice()
+        &self.bytes[..self.len]
     }
 
     // Starts a new line.
     pub fn clear(&mut self)
         ensures { self.new ≡ [] }
     {
-        self.bytes.clear();
+        self.len = 0;
     }
 }

@@ -69,7 +69,8 @@ impl Plan {
 
     // Whether one of the ranges has the key.
     pub fn is_planned(&self, key: u32) -> bool
-        ensures { IsTrue result ↔ Planned self.now key }
+        ensures planned { IsTrue result ↔ Planned self.now key }
+        ensures rule { Rule self.now }
     {
         // one by one, since there are at most 32
         self.ranges().iter().any(|range| range.has(key))

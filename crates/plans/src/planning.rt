@@ -5,6 +5,7 @@ ghost use Rattle.fault.specs.Numbers.{window_number};
 ghost use Rattle.grid.specs.Keys.{key_at};
 ghost use Rattle.windows.specs.Intervals.{window_checks};
 ghost use Rattle.windows.specs.Finding.{Holds, Proper};
+ghost use Rattle.windows.specs.Window.{IsWindow};
 ghost use Rattle.plans.specs.Ranges.{Planned, Apart, Rule};
 ghost use Rattle.plans.specs.Planning.{Merges, Gains, IsPlan};
 
@@ -65,7 +66,8 @@ fn add_run(plan: &mut Plan, place: u16, run: Option<(u16, u16)>)
 impl Plan {
     // The plan of a window: the keys of the vectors inside, and no others.
     pub fn of(window: &Window, setting: Setting) -> Plan
-        ensures { IsPlan setting.theta window.now result }
+        ensures plan { IsPlan setting.theta window.now result }
+        ensures window { IsWindow window.now }
     {
         let mut plan = Plan::new();
         // Over places and not over intervals, since the finders take a place.
@@ -89,7 +91,10 @@ pub fn plan_window(
 ) -> Result<(), WindowFault>
     ensures answers { Answers window_number (window_checks setting.places intervals.now) (λ _. IsPlan setting.theta intervals.now plan.new) result }
     ensures stays { OnErr result (plan.new ≡ plan.old) }
+    ensures rule { Rule plan.new }
 {
+    // asked for its contract alone: a refused plan stays, and what holds of every plan is said of it too
+    let _held = plan.ranges();
     let window = Window::new(setting, intervals)?;
     *plan = Plan::of(&window, setting);
     Ok(())

@@ -16,6 +16,7 @@ use grid::settings::Setting;
 pub struct Study {
     setting: Setting,
     tally: Tally,
+    ghost places: { length tally ≡ 16 },
 }
 
 impl Study {

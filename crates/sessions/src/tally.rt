@@ -48,7 +48,8 @@ impl Model for Tally {
 impl Tally {
     // The tally of no vectors.
     pub fn new() -> Tally
-        ensures { (j : ℕ) (e : Edge) → j < 16 → count_at result j e ≡ 0 }
+        ensures blank { (j : ℕ) (e : Edge) → j < 16 → count_at result j e ≡ 0 }
+        ensures places { length result ≡ 16 }
     {
         Tally {
             counts: [Counts { low: 0, high: 0 }; MOST_PLACES],
@@ -57,7 +58,8 @@ impl Tally {
 
     // Counts one more vector, by the parts of its key.
     pub fn note(&mut self, parts: KeyParts)
-        ensures { (j : ℕ) (e : Edge) → j < 16 → count_at self.new j e ≡ raised (parts.place == j && same_edge parts.edge e) (count_at self.old j e) }
+        ensures counts { (j : ℕ) (e : Edge) → j < 16 → count_at self.new j e ≡ raised (parts.place == j && same_edge parts.edge e) (count_at self.old j e) }
+        ensures places { length self.new ≡ 16 }
     {
         self.counts[parts.place()].raise(parts.edge());
     }

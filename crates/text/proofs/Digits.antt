@@ -1,18 +1,12 @@
 -- Digits with no leading zero are what `spelled` gives of their value.
-use Rattle.std.proofs.Common.{rules, ◌≡◌, ℕ, zero, suc, ◌+◌, ◌-◌, ◌*◌, ◌/◌, ◌%◌, ◌^◌, ◌<◌, ◌≤◌, cond, List, [], ◌∷◌, ◌++◌, map, length, Ok, Err, Result, sym, refl, ap, ◌∙◌, subst, append_assoc, append-nil, arith, ne_eqb, ◌≢◌}
+use Rattle.std.proofs.Common.{◌≡◌, ℕ, zero, suc, ◌+◌, ◌-◌, ◌*◌, ◌/◌, ◌%◌, ◌<◌, ◌≤◌, cond, List, [], ◌∷◌, ◌++◌, map, length, get_or, take, drop, sym, refl, ap, ◌∙◌, subst, append_assoc, append-nil, arith, ne_eqb, ◌≢◌}
 use lib.ListN.{length-map}
 use Rattle.std.proofs.lemmas.Int.Digits.{digits_of_step, all_below_base_digits_of, first_digits_of, number_digits_of, length-digits_of_step}
-use Rattle.std.proofs.lemmas.List.{map_push, get_or-map}
+use Rattle.std.proofs.lemmas.List.{map_push, get_or-map, take_more, take-append-drop, take_all}
 use Rattle.std.proofs.lemmas.List.Elements.{All-from_recursion, All-weaker, All-map, All-nil, All-cons, All-head, All-tail}
-use Rattle.std.proofs.lemmas.Str.{IsUtf8-from_ascii}
-use Rattle.std.proofs.lemmas.Str.Ascii.{IsAscii-from_all}
-use Rattle.std.proofs.lemmas.Str.Parse.{numerals_by_fold, tells_by_index, parse_digits}
 use Rattle.std.specs.Char.{IsAsciiDigit}
 use Rattle.std.specs.Int.Digits.{digits_of, number_from_digits_after}
 use Rattle.std.specs.List.{All}
-use Rattle.std.specs.Result.{OkIff}
-use Rattle.std.specs.Str.{IsUtf8}
-use Rattle.std.specs.Str.Parse.{ParsesUnsigned}
 use Rattle.text.specs.Spelling.{spelled, Plain}
 
 -- the number that the bytes write, after those of n
@@ -94,22 +88,16 @@ spelled_plain (suc m) =
     } in
     subst Plain (sym (spelled_some n (omega arith))) p
 
--- what the library reads
-spelled_utf8 : (n : ℕ) → IsUtf8 (spelled n)
-spelled_utf8 n =
-    IsUtf8-from_ascii (spelled n) (IsAscii-from_all (spelled n) (All-weaker IsAsciiDigit (λ b. b < 128) (λ b h. omega (arith, h.1)) (spelled n) ((spelled_plain n).digits)))
+-- reading byte by byte
+read_append : (n : ℕ) (xs ys : List ℕ) → read n (xs ++ ys) ≡ read (read n xs) ys
+read_append n [] ys = refl
+read_append n (x ∷ xs) ys = read_append (n * 10 + (x - 48)) xs ys
 
-pub not_spelled : (f : List ℕ) → ¬ (IsUtf8 f) → (n : ℕ) → f ≢ spelled n
-not_spelled f broken n e = broken (subst IsUtf8 (sym e) (spelled_utf8 n))
+pub read_more : (f : List ℕ) (i : ℕ) → i < length f → read 0 (take (i + 1) f) ≡ read 0 (take i f) * 10 + (get_or f i 0 - 48)
+read_more f i l = ap (read 0) (take_more f i 0 l) ∙ read_append 0 (take i f) (get_or f i 0 ∷ [])
 
-parsed : (f t : List ℕ) (r : Result ℕ (Unit {0})) → Plain f → t ≡ f → ParsesUnsigned 32 10 t r → OkIff r ((0 < length f) × (read 0 f < 2 ^ 32)) (read 0 f)
-parsed f t r p e h = parse_digits (numerals_by_fold _ tells_by_index read (search rules)) 32 f r (subst (λ v. ParsesUnsigned 32 10 v r) e h) (λ i. p.digits i 0)
+pub read_upto : (f : List ℕ) (i : ℕ) → read 0 (take i f) ≤ read 0 f
+read_upto f i = omega (arith, ap (read 0) (take-append-drop i f), read_append 0 (take i f) (drop i f), read_ge (read 0 (take i f)) (drop i f))
 
-pub parsed_ok : (f t : List ℕ) (n : ℕ) → Plain f → t ≡ f → ParsesUnsigned {E = Unit {0}} 32 10 t (Ok n) → f ≡ spelled n
-parsed_ok f t n p e h = plain_spelled f p ∙ ap spelled (sym (parsed f t (Ok n) p e h).1)
-
-pub parsed_err : (f t : List ℕ) → Plain f → t ≡ f → ParsesUnsigned 32 10 t (Err (tt {0})) → (n : ℕ) × (f ≡ spelled n) × (2 ^ 32 ≤ n)
-parsed_err f t p e h = (read 0 f, plain_spelled f p, large (λ l. parsed f t (Err (tt {0})) p e h (p.some, l)))
-  where
-    large : (read 0 f < 2 ^ 32 → ⊥) → 2 ^ 32 ≤ read 0 f
-    large few = omega arith
+pub read_all : (f : List ℕ) (i : ℕ) → length f ≤ i → read 0 (take i f) ≡ read 0 f
+read_all f i l = ap (read 0) (take_all i f l)

@@ -1,5 +1,5 @@
 // The fields of a line, parted by tabs.
-ghost use Rattle.std.specs.Prelude.{◌≡◌, ◌↔◌, ◌==◌, length, count_by, IsTrue};
+ghost use Rattle.std.specs.Prelude.{◌≡◌, ◌↔◌, ◌==◌, length, count_by, min, IsTrue};
 ghost use Rattle.std.specs.Iterator.{YieldsFirstRef, item_count};
 ghost use Rattle.text.specs.Fields.{fields, left, FirstField, FieldsJoin};
 ghost use Rattle.text.specs.Reading.{ReadFields};
@@ -32,10 +32,11 @@ pub fn first_field(line: &[u8]) -> (&[u8], Option<&[u8]>)
     }
 }
 
-fn tab_count(line: &[u8]) -> usize
-    ensures { result ≡ count_by (λ b. b == 9) line.now }
+// How many tabs a line has, counted up to a most: nothing is read behind so many.
+fn tab_count(line: &[u8], most: usize) -> usize
+    ensures { result ≡ min most (count_by (λ b. b == 9) line.now) }
 {
-    line.iter().filter(|b| is_tab(**b)).count()
+    line.iter().filter(|b| is_tab(**b)).take(most).count()
 }
 
 // Whether a line has this many fields.
@@ -43,7 +44,7 @@ fn tab_count(line: &[u8]) -> usize
 pub fn has_fields(line: &[u8], count: usize) -> bool
     ensures { IsTrue result ↔ (length (fields line.now) ≡ count) }
 {
-    tab_count(line) + 1 == count
+    tab_count(line, count) + 1 == count
 }
 
 // The fields of a line that are left to be read.
@@ -81,6 +82,13 @@ impl<'a> From<Option<&'a [u8]>> for Fields<'a> {
 }
 
 impl<'a> Fields<'a> {
+    // What is left of the line, if anything is, for whoever reads the fields more than once.
+    pub fn rest(&self) -> Option<&'a [u8]>
+        ensures { left result ≡ self.now }
+    {
+        self.rest // copied
+    }
+
     // Whether this many fields are left.
     pub fn has_count(&self, count: usize) -> bool
         ensures { IsTrue result ↔ (length self.now ≡ count) }

@@ -83,10 +83,13 @@ fn between(bottom: u32, top: u16) -> Option<(u16, u16)>
 // The finders answer the ends of a run as a pair, and take the setting with the place, since a window may be planned
 // under another setting than its own.
 impl Window {
+    ghost use Rattle.windows.specs.Window.{IsWindow};
+
     // The ends of the low run of a place: the values of which some vector inside on the low edge makes its key there.
     pub fn low_run(&self, setting: Setting, place: usize) -> Option<(u16, u16)>
         ensures proper { Proper result }
         ensures exact { Same (Holds result) (InLowRun setting.theta self.now place) }
+        ensures window { IsWindow self.now }
     {
         let interval = self.interval(place)?;
         let cap = ceiling(self.least_high, place)?;
@@ -99,6 +102,7 @@ impl Window {
     pub fn high_run(&self, setting: Setting, place: usize) -> Option<(u16, u16)>
         ensures proper { Proper result }
         ensures exact { Same (Holds result) (InHighRun setting.theta self.now place) }
+        ensures window { IsWindow self.now }
     {
         let interval = self.interval(place)?;
         let base = floor(self.greatest_low, place);

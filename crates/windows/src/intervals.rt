@@ -5,6 +5,7 @@ ghost use Rattle.windows.specs.Intervals.{Inside, Uncrossed, EndsOnGrid};
 ghost use Rattle.windows.specs.Ends.{far_end};
 
 use crate::spans::Span;
+pub use grid::extremes::Extreme;
 use grid::extremes::Measured;
 use grid::parts::Edge;
 

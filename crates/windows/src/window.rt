@@ -88,14 +88,16 @@ impl Window {
 
     // The interval of a place, if the window has that place.
     pub fn interval(&self, place: usize) -> Option<Interval>
-        ensures { PlaceOf self.now place result }
+        ensures place { PlaceOf self.now place result }
+        ensures window { IsWindow self.now }
     {
         self.intervals().get(place).copied()
     }
 
     // Whether a vector lies inside: it has as many places as the window, and each measure lies between its ends.
     pub fn contains(&self, vector: &[u16]) -> bool
-        ensures { IsTrue result ↔ Inside self.now vector.now }
+        ensures inside { IsTrue result ↔ Inside self.now vector.now }
+        ensures window { IsWindow self.now }
     {
         let intervals = self.intervals();
         vector.len() == intervals.len() && is_inside(vector, intervals)

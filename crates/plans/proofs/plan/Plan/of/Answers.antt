@@ -27,7 +27,7 @@ loop-place-preserved c =
     let second = c.add_run-in-loop-place.ensures in
     upto_more (turn (goal.at.loop-place-preserved c).After-merged-first) c.loop-place.plan c.add_run.new.plan c.add_run-in-loop-place.new.plan inv first.gains second.gains (second.rule (first.rule inv.rule))
 
-pub returns : goal.returns
-returns c =
+pub returns-clause-plan : goal.returns-clause-plan
+returns-clause-plan c =
     upto_all c.args.setting.theta c.args.window.now c.loop-place.place c.loop-place.plan c.places-place-end.ensures.window.valid
     (omega (arith, c.places-place-end.ensures.count)) c.loop-place.invariant

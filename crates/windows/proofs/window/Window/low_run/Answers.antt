@@ -13,7 +13,7 @@ known c =
     let h = opened c.args.self.now c.self.inside c.self.view_is c.self.invariant in
     record {
       rest = c.in_ok-room.ensures;
-      within = c.in_ok-interval.ensures.0;
+      within = c.in_ok-interval.ensures.place.0;
       reach = reach_bound Low c.args.self.now c.self.inside.least_high c.args.place (λ v. v ≤ c.in_ok-cap.cap) h.window.valid.some h.highs c.in_ok-cap.ensures;
       widest_is = h.lows.0;
       extra_is = c.step.ensures;
@@ -36,4 +36,4 @@ returns-in_err-top-clause-exact c =
 pub returns-clause-exact : goal.returns-clause-exact
 returns-clause-exact c =
     let f = known (goal.at.returns-clause-exact c).After-low_top in
-    run_found f c.in_ok-interval.interval c.from.result c.in_ok-top.top c.between.result c.in_ok-interval.ensures.1 c.from.ensures c.in_ok-top.ensures c.between.ensures.exact
+    run_found f c.in_ok-interval.interval c.from.result c.in_ok-top.top c.between.result c.in_ok-interval.ensures.place.1 c.from.ensures c.in_ok-top.ensures c.between.ensures.exact
